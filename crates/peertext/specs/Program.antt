@@ -1,17 +1,22 @@
 -- The program over a reader and a writer that are new: nothing was read of the one, nothing was written to the other.
-use Rattle.std.specs.Prelude.{◌≡◌, ◌⊎◌, ℕ, Bool, List, Option, Some, None, is_some, Result, Ok, Err, MatchResult, Vec}
+use Rattle.std.specs.Prelude.{◌≡◌, ◌⊎◌, ℕ, Bool, List, Option, Some, None, is_some, map, Result, Ok, Err, MatchResult, Vec, string_bytes}
 use Rattle.std.specs.Borrow.{Bor}
 use Rattle.std.specs.declared.alloc.Global.{Global}
 use Rattle.std.specs.declared.io.ErrorKind.{ErrorKind}
 use Rattle.rt_stamps.specs.declared.fault.Fault.{Fault}
 use Rattle.rt_stamps.specs.Streams.{Stream}
+use Rattle.rt_stamps.specs.Words.{Word}
 use Rattle.rt_program.specs.declared.ending.Failure.{Failure}
 use Rattle.rt_program.specs.Endings.{first_failure, run_failure, write_failure}
 use Rattle.rt_program.specs.Readers.{ReadsFresh, fresh}
-use Rattle.rt_script.specs.Site.{NamedFile}
+use Rattle.rt_script.specs.Site.{GivenFile, NamedFile}
 use Rattle.rt_script.specs.SiteRun.{Begins, RunsScript}
 use Rattle.rt_script.specs.SiteValue.{SiteValue}
 use Rattle.rt_script.specs.declared.site_run.ScriptRun.{ScriptRun}
+
+-- the names of files, in order
+abbrev pub names_of_files : List GivenFile → List Word
+names_of_files files = map (λ file. string_bytes file.0) files
 
 -- A site begins with all bytes of a file. Or it doesn't, as these were not read, or as it refuses them.
 abbrev pub BeginsFresh : ℕ → Option (List ℕ) → Stream → Result SiteValue (Fault × ℕ) → Type 0

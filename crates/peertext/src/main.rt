@@ -4,10 +4,11 @@
 //! and `peertext show FILE` writes the line of each operation of one.
 #![tactic(auto)]
 
-ghost use Rattle.std.specs.Prelude.{◌≡◌, ◌≤◌, ◌<◌, length, None, IfOk, MatchResult, OnOk};
+ghost use Rattle.std.specs.Prelude.{◌≡◌, ◌≤◌, ◌<◌, ◌++◌, ◌∷◌, [], length, None, IfOk, MatchResult, OnOk};
 ghost use Rattle.rt_stamps.specs.declared.limits.TheConstants.{MOST_BYTES};
 ghost use Rattle.rt_stamps.specs.Streams.{Stream};
-ghost use Rattle.peertext.specs.Program.{ProgramRuns, WritesLog};
+ghost use Rattle.rt_stamps.specs.Words.{as_words};
+ghost use Rattle.peertext.specs.Program.{ProgramRuns, WritesLog, names_of_files};
 ghost use Rattle.rt_program.specs.Endings.{log_failure};
 ghost use Rattle.rt_program.specs.Readers.{stream_of};
 ghost use Rattle.rt_script.specs.Site.{AreWithin, named_files};
@@ -102,7 +103,8 @@ fn add_file(
 ) -> Result<(), Fault>
     requires files { AreWithin files.old.items }
     requires bytes { length bytes.items ≤ MOST_BYTES }
-    ensures { OnOk result (AreWithin files.new.items) }
+    ensures within { OnOk result (AreWithin files.new.items) }
+    ensures names { OnOk result (names_of_files files.new.items ≡ names_of_files files.old.items ++ path.now ∷ []) }
 {
     let name = String::from_str(alloc, path)?;
     files.push((name, bytes))?;
@@ -114,7 +116,8 @@ fn read_paths<'a>(
     rt: &HostRuntime,
     paths: &'a [String],
 ) -> Result<Vec<(String, Vec<u8>)>, Failure<'a>>
-    ensures { IfOk result (λ files. AreWithin files.items) }
+    ensures within { IfOk result (λ files. AreWithin files.items) }
+    ensures names { IfOk result (λ files. names_of_files files.items ≡ as_words paths.now) }
 {
     let mut files = Vec::new(rt.alloc());
     for path in paths {

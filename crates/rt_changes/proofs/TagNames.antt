@@ -52,7 +52,7 @@ front_less (v ∷ front) w ws h = (at front h.0, front_less front w ws h.1)
     at [] k = k.0
     at (x ∷ front) k = at front k.1
 
-after_rising : (front ws : List Write) → IsByName (front ++ ws) → state_after front ws ≡ front ++ ws
+pub after_rising : (front ws : List Write) → IsByName (front ++ ws) → state_after front ws ≡ front ++ ws
 after_rising front [] h = sym (append-nil front)
 after_rising front (w ∷ ws) h =
     let joined : (front ++ w ∷ []) ++ ws ≡ front ++ w ∷ ws = append_assoc front (w ∷ []) ws in

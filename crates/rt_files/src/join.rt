@@ -7,12 +7,10 @@ ghost use Rattle.rt_ops.specs.Operations.{Operation};
 ghost use Rattle.rt_oplog.specs.Outcomes.{IsLogOf};
 ghost use Rattle.rt_files.specs.Files.{IsRefusedAt, FileGives, GivesNoLog, JoinsFiles, in_file, of_neither};
 
-use rt_oplog::{Op, OpLog, join, read_file, write_file};
-use rt_stamps::std_ends::{Count, Writer};
+use crate::sending::export;
+use rt_oplog::{Op, OpLog, join, read_file};
 use rt_stamps::{Fault, Source};
 use std::alloc::Global;
-use std::marker::Brand;
-use std::sync::ledger::{Blank, Ledger};
 
 /// Why two files were not joined.
 #[derive(Clone, Copy, Debug, PartialEq, Eq)]
@@ -83,28 +81,6 @@ fn log_in<R: Source>(alloc: Global, file: u8, source: &mut R) -> Result<OpLog, J
     }
 }
 
-// The file of a log, in memory.
-fn spelled<A: Ledger, B: Ledger>(
-    alloc: Global,
-    log: &OpLog,
-    writes: Blank,
-    failures: Blank,
-) -> Result<Vec<u8>, Fault>
-    requires writes { (writes.name ≡ A.name) × (writes.parts ≡ A.parts) × (0 < A.parts) }
-    requires failures { (failures.name ≡ B.name) × (failures.parts ≡ B.parts) × (0 < B.parts) }
-    ensures { MatchResult result (λ bytes. bytes.items ≡ spelling (reverse log.now.operations)) (λ fault. fault ≡ NoMemory) }
-{
-    let mut bytes = Writer::new(
-        Vec::new(alloc),
-        Count::<A>::begin(writes),
-        Count::<B>::begin(failures),
-    );
-    match write_file(alloc, log, &mut bytes) {
-        Ok(()) => Ok(bytes.into_inner()),
-        Err(_) => Err(Fault::NoMemory),
-    }
-}
-
 // The file of the join of two logs.
 fn spelled_join(alloc: Global, one: OpLog, other: OpLog) -> Result<Vec<u8>, Fault>
     ensures { MatchResult result
@@ -112,7 +88,7 @@ fn spelled_join(alloc: Global, one: OpLog, other: OpLog) -> Result<Vec<u8>, Faul
         (λ fault. (joined one.operations other.operations ≡ Err fault) ⊎ (fault ≡ NoMemory)) }
 {
     let log = join(one, other)?;
-    spelled::<Brand, Brand>(alloc, &log, Blank::new(1), Blank::new(1))
+    export(alloc, &log)
 }
 
 /// Reads two files of operations, the first one first, and answers the file of the join of their logs.

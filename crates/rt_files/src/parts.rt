@@ -40,7 +40,7 @@ pub fn write_parts<W: Sink>(parts: &[Part<'_>], out: &mut W) -> Result<(), Fault
 
 /// Writes the spans, a space before each. `WriteFault` after a failed write, and then a front of them was
 /// written.
-pub fn write_spans<W: Sink>(spans: &[Span], out: &mut W) -> Result<(), Fault>
+pub(crate) fn write_spans<W: Sink>(spans: &[Span], out: &mut W) -> Result<(), Fault>
     ensures { WritesText (W.stream out.old) (W.stream out.new) result (flat_map (λ span. 32 ∷ text_of_span span) spans.now) }
 {
     for span in spans {

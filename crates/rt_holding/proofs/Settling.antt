@@ -14,7 +14,7 @@ use Rattle.rt_rga.proofs.Accepting.{continues_if_new, history_if_new}
 use Rattle.rt_rga.proofs.Counts.{length_with}
 use Rattle.rt_rga.proofs.Merging.{cells_with}
 use Rattle.rt_rga.proofs.Room.{full_exactly, new_within, taken_within}
-use Rattle.rt_holding.specs.Holding.{Holding, Settles, after_answer, all_tried, has_no_room, is_early, is_new, next_held, next_of, no_more_held, rest, takes, drops, lacks, settled, stays, taken_then, tried, with_taken, without_op}
+use Rattle.rt_holding.specs.Holding.{Holding, Settles, after_answer, has_no_room, is_early, is_new, next_held, next_of, no_more_held, rest, takes, drops, lacks, settled, stays, taken_then, tried, with_taken, without_op}
 use Rattle.rt_holding.specs.Memory.{FoundMemory}
 use Rattle.rt_holding.specs.Runs.{AreTakenInTurn}
 use Rattle.rt_holding.proofs.Keeping.{is_new_true, left_not, next_is}
@@ -60,13 +60,13 @@ Finds limit s t more = (h : Settles limit [] s t more) × FoundMemory h
 abbrev Settled : ℕ → Holding → Holding → List Operation → Type 0
 Settled limit s t more = Finds limit s t more × (next_held limit [] t ≡ None)
 
-tried_settles : (limit n : ℕ) (s : Holding) → length s.held ≤ n → Settled limit s (tried limit n s) (all_tried limit n s)
+tried_settles : (limit n : ℕ) (s : Holding) → length s.held ≤ n → Settled limit s (tried limit n s).0 (tried limit n s).1
 tried_settles limit zero s l = let e = nothing_next limit s.log s.held l in ((rest e, tt), e)
 tried_settles limit (suc n) s l = by (next_held limit [] s) refl (λ op u m. tried_settles limit n u m)
   where
     one : (op : Operation) (a : Answer) → a ≡ answer_within limit op s.log → next_held limit [] s ≡ Some op
-        → ((u : Holding) → length u.held ≤ n → Settled limit u (tried limit n u) (all_tried limit n u))
-        → Settled limit s (tried limit n (after_answer a op s)) (cond (is_new a) (op ∷ all_tried limit n (after_answer a op s)) (all_tried limit n (after_answer a op s)))
+        → ((u : Holding) → length u.held ≤ n → Settled limit u (tried limit n u).0 (tried limit n u).1)
+        → Settled limit s (tried limit n (after_answer a op s)).0 (cond (is_new a) (op ∷ (tried limit n (after_answer a op s)).1) (tried limit n (after_answer a op s)).1)
     one op a w e f =
         let i = next_is limit [] s op e in
         let m = without_lt op s.held i.0 in
@@ -74,23 +74,29 @@ tried_settles limit (suc n) s l = by (next_held limit [] s) refl (λ op u m. tri
         split (is_new a)
         (λ g. let q = after_new a op s g in
         let r = f u (subst (λ v. length v.held ≤ n) (sym q) (omega (arith, m, l))) in
-        let later = subst (λ v. Finds limit v (tried limit n u) (all_tried limit n u)) q r.0 in (
-          subst (λ b. Finds limit s (tried limit n u) (cond b (op ∷ all_tried limit n u) (all_tried limit n u))) (sym g)
+        let later = subst (λ v. Finds limit v (tried limit n u).0 (tried limit n u).1) q r.0 in (
+          subst (λ b. Finds limit s (tried limit n u).0 (cond b (op ∷ (tried limit n u).1) (tried limit n u).1)) (sym g)
               (takes e (subst (λ x. is_new x ≡ true) w g) later.0, later.1),
           r.1,
         ))
         (λ g. let k = left_not (is_new (answer_within limit op s.log)) (stays (answer_within limit op s.log)) (holds [] op) i.1 in
         let q = after_drop a op s g (subst (λ x. stays x ≡ false) (sym w) k) in
         let r = f u (subst (λ v. length v.held ≤ n) (sym q) (omega (arith, m, l))) in
-        let later = subst (λ v. Finds limit v (tried limit n u) (all_tried limit n u)) q r.0 in (
-          subst (λ b. Finds limit s (tried limit n u) (cond b (op ∷ all_tried limit n u) (all_tried limit n u))) (sym g)
+        let later = subst (λ v. Finds limit v (tried limit n u).0 (tried limit n u).1) q r.0 in (
+          subst (λ b. Finds limit s (tried limit n u).0 (cond b (op ∷ (tried limit n u).1) (tried limit n u).1)) (sym g)
               (drops e (subst (λ x. is_new x ≡ false) w g) later.0, later.1),
           r.1,
         ))
 
-    by : (r : Option Operation) → next_held limit [] s ≡ r → ((op : Operation) (u : Holding) → length u.held ≤ n → Settled limit u (tried limit n u) (all_tried limit n u))
-        → Settled limit s (elim r [ None ↦ s | Some op ↦ tried limit n (after_answer (answer_within limit op s.log) op s) ])
-        (elim r [ None ↦ [] | Some op ↦ cond (is_new (answer_within limit op s.log)) (op ∷ all_tried limit n (after_answer (answer_within limit op s.log) op s)) (all_tried limit n (after_answer (answer_within limit op s.log) op s)) ])
+    from : Option Operation → Holding × List Operation
+    from r = elim r [
+      | None ↦ (s, [])
+      | Some op ↦ (let later = tried limit n (after_answer (answer_within limit op s.log) op s) in
+          (later.0, cond (is_new (answer_within limit op s.log)) (op ∷ later.1) later.1))
+    ]
+
+    by : (r : Option Operation) → next_held limit [] s ≡ r → ((op : Operation) (u : Holding) → length u.held ≤ n → Settled limit u (tried limit n u).0 (tried limit n u).1)
+        → Settled limit s (from r).0 (from r).1
     by None e f = ((rest e, tt), e)
     by (Some op) e f = one op (answer_within limit op s.log) refl e (f op)
 
@@ -104,16 +110,16 @@ pub none_left : (limit : ℕ) (s : Holding) → next_held limit [] (settled limi
 none_left limit s = (tried_settles limit (length s.held) s (omega arith)).1
 
 ample_tried : (limit n : ℕ) (s t : Holding) (more : List Operation) (h : Settles limit [] s t more) → FoundMemory h → length s.held ≤ n
-    → (t ≡ tried limit n s) × (more ≡ all_tried limit n s)
+    → (t ≡ (tried limit n s).0) × (more ≡ (tried limit n s).1)
 ample_tried limit zero s t more (rest e) f l = (refl, refl)
-ample_tried limit (suc n) s t more (rest e) f l = (rw (e, tried) refl, rw (e, all_tried) refl)
+ample_tried limit (suc n) s t more (rest e) f l = (rw (e, tried) refl, rw (e, tried) refl)
 ample_tried limit zero s t more (takes {op = op} e m r) f l = absurd (let k = nothing_next limit s.log s.held l in cc (e, k))
 ample_tried limit (suc n) s t more (takes {more = later} {op = op} e m r) f l =
     let i = next_is limit [] s op e in
     let k = without_lt op s.held i.0 in
     let q = after_new (answer_within limit op s.log) op s m in
     let j = ample_tried limit n (with_taken op s) t later r f (omega (arith, k, l)) in
-    (rw (e, tried, q) j.0, rw (e, all_tried, q, m) (ap (λ ops. op ∷ ops) j.1))
+    (rw (e, tried, q) j.0, rw (e, tried, q, m) (ap (λ ops. op ∷ ops) j.1))
 ample_tried limit zero s t more (drops {op = op} e m r) f l = absurd (let k = nothing_next limit s.log s.held l in cc (e, k))
 ample_tried limit (suc n) s t more (drops {op = op} e m r) f l =
     let i = next_is limit [] s op e in
@@ -121,7 +127,7 @@ ample_tried limit (suc n) s t more (drops {op = op} e m r) f l =
     let a = answer_within limit op s.log in
     let q = after_drop a op s m (left_not (is_new a) (stays a) (holds [] op) i.1) in
     let j = ample_tried limit n (no_more_held op s) t more r f (omega (arith, k, l)) in
-    (rw (e, tried, q) j.0, rw (e, all_tried, q, m) j.1)
+    (rw (e, tried, q) j.0, rw (e, tried, q, m) j.1)
 ample_tried limit n s t more (lacks e m r) f l = absurd f
 
 pub ample_settled : (limit : ℕ) (s t : Holding) (more : List Operation) (h : Settles limit [] s t more) → FoundMemory h

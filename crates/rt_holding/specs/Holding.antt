@@ -113,26 +113,21 @@ abbrev pub next_held : ℕ → List Operation → Holding → Option Operation
 next_held limit wanting s = next_of limit wanting s.log s.held
 
 -- Held ones are tried until none can be taken: the least stamp first, and of equal stamps the one that came first. One that is
--- tried is taken; or it is there already or refused for good, and dropped.
-abbrev pub tried : ℕ → ℕ → Holding → Holding
-tried limit zero s = s
-tried limit (suc n) s = elim (next_held limit [] s) [ None ↦ s | Some op ↦ tried limit n (after_answer (answer_within limit op s.log) op s) ]
-
--- those that are taken, in order
-abbrev pub all_tried : ℕ → ℕ → Holding → List Operation
-all_tried limit zero s = []
-all_tried limit (suc n) s = elim (next_held limit [] s) [
-  | None ↦ []
-  | Some op ↦ (let more = all_tried limit n (after_answer (answer_within limit op s.log) op s) in
-      if is_new (answer_within limit op s.log) then op ∷ more else more)
+-- tried is taken; or it is there already or refused for good, and dropped. What is left, and those that are taken, in order.
+abbrev pub tried : ℕ → ℕ → Holding → Holding × List Operation
+tried limit zero s = (s, [])
+tried limit (suc n) s = elim (next_held limit [] s) [
+  | None ↦ (s, [])
+  | Some op ↦ (let later = tried limit n (after_answer (answer_within limit op s.log) op s) in
+      (later.0, if is_new (answer_within limit op s.log) then op ∷ later.1 else later.1))
 ]
 
 -- each try is of one that is held no more afterwards
 abbrev pub settled : ℕ → Holding → Holding
-settled limit s = tried limit (length s.held) s
+settled limit s = (tried limit (length s.held) s).0
 
 abbrev pub taken_then : ℕ → Holding → List Operation
-taken_then limit s = all_tried limit (length s.held) s
+taken_then limit s = (tried limit (length s.held) s).1
 
 -- Held ones are tried as `settled` has it, and a try may find no memory: such a one stays held, and isn't tried again in the
 -- same call. From a state, and those that found no memory, to the state after it and those that are taken, in order.

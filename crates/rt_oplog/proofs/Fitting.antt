@@ -2,16 +2,14 @@
 use Rattle.rt_rows.specs.Places.{op_at}
 use Rattle.rt_rows.specs.declared.rows.RowPlace.{RowPlace}
 use Rattle.std.proofs.Common.{◌≡◌, ℕ, ◌+◌, ◌<◌, Bool, true, false, ◌&&◌, refl, sym, ap, ◌∙◌, List, ◌++◌, length, get_or, take, drop, take-append-drop}
-use Rattle.std.specs.List.{list_all}
+use Rattle.std.specs.List.{flat_map, list_all}
 use Rattle.std.proofs.lemmas.List.{map-append}
 use Rattle.std.proofs.lemmas.Grind.{flat_map-append}
 use Rattle.std.proofs.lemmas.List.Folds.{list_all-append, list_all-map, list_all_at, list_all_more}
 use Rattle.rt_ops.specs.declared.version.Version.TheVariants.{One}
 use Rattle.rt_ops.specs.Operations.{Operation}
 use Rattle.rt_ops.specs.File.{fits, version_of}
-use Rattle.rt_oplog.specs.declared.block.Block.{Block}
-use Rattle.rt_oplog.specs.Blocks.{places_in_blocks}
-use Rattle.rt_oplog.proofs.InBlocks.{places_next}
+use Rattle.rt_oplog.proofs.InParts.{places_next}
 use Rattle.rt_oplog.proofs.Merges.{ops_at}
 
 -- the first version has room for the operations of places
@@ -45,39 +43,39 @@ fits_at ops places i op l e all = by (fits One op) refl
     by true h = h
     by false h = absurd (cc (all, fits_not ops places i op l e h))
 
--- ---- the next block
+-- ---- the next part: a run, or a block
 
-pub block_fits : (ops : List (List Operation)) (bs : List Block) (i : ℕ) (b : Block) → i < length bs → b ≡ get_or bs i b
-    → fit ops (places_in_blocks (take i bs)) ≡ true → fit ops b.places.items ≡ true → fit ops (places_in_blocks (take (i + 1) bs)) ≡ true
-block_fits ops bs i b l e before here =
-    ap (fit ops) (places_next bs i b l e) ∙ fit_append ops (places_in_blocks (take i bs)) b.places.items ∙ (λ j. before j && here j)
+pub part_fits : {X : Type 0} (f : X → List RowPlace) (ops : List (List Operation)) (bs : List X) (i : ℕ) (b : X) → i < length bs → b ≡ get_or bs i b
+    → fit ops (flat_map f (take i bs)) ≡ true → fit ops (f b) ≡ true → fit ops (flat_map f (take (i + 1) bs)) ≡ true
+part_fits f ops bs i b l e before here =
+    ap (fit ops) (places_next f bs i b l e) ∙ fit_append ops (flat_map f (take i bs)) (f b) ∙ (λ j. before j && here j)
 
--- a block among all
-split_at : (ops : List (List Operation)) (bs : List Block) (i : ℕ) (b : Block) → i < length bs → b ≡ get_or bs i b
-    → fit ops (places_in_blocks bs) ≡ ((fit ops (places_in_blocks (take i bs)) && fit ops b.places.items) && fit ops (places_in_blocks (drop (i + 1) bs)))
-split_at ops bs i b l e =
-    ap (λ xs. fit ops (places_in_blocks xs)) (sym (take-append-drop (i + 1) bs))
-    ∙ ap (fit ops) (flat_map-append (λ (x : Block). x.places.items) (take (i + 1) bs) (drop (i + 1) bs))
-    ∙ fit_append ops (places_in_blocks (take (i + 1) bs)) (places_in_blocks (drop (i + 1) bs))
-    ∙ ap (λ a. a && fit ops (places_in_blocks (drop (i + 1) bs))) (ap (fit ops) (places_next bs i b l e) ∙ fit_append ops (places_in_blocks (take i bs)) b.places.items)
+-- a part among all
+split_at : {X : Type 0} (f : X → List RowPlace) (ops : List (List Operation)) (bs : List X) (i : ℕ) (b : X) → i < length bs → b ≡ get_or bs i b
+    → fit ops (flat_map f bs) ≡ ((fit ops (flat_map f (take i bs)) && fit ops (f b)) && fit ops (flat_map f (drop (i + 1) bs)))
+split_at f ops bs i b l e =
+    ap (λ xs. fit ops (flat_map f xs)) (sym (take-append-drop (i + 1) bs))
+    ∙ ap (fit ops) (flat_map-append f (take (i + 1) bs) (drop (i + 1) bs))
+    ∙ fit_append ops (flat_map f (take (i + 1) bs)) (flat_map f (drop (i + 1) bs))
+    ∙ ap (λ a. a && fit ops (flat_map f (drop (i + 1) bs))) (ap (fit ops) (places_next f bs i b l e) ∙ fit_append ops (flat_map f (take i bs)) (f b))
 
 middle_not : (a c : Bool) → ((a && false) && c) ≡ false
 middle_not true c = refl
 middle_not false c = refl
 
-pub block_not : (ops : List (List Operation)) (bs : List Block) (i : ℕ) (b : Block) → i < length bs → b ≡ get_or bs i b
-    → fit ops b.places.items ≡ false → fit ops (places_in_blocks bs) ≡ false
-block_not ops bs i b l e here =
-    split_at ops bs i b l e ∙ ap (λ m. (fit ops (places_in_blocks (take i bs)) && m) && fit ops (places_in_blocks (drop (i + 1) bs))) here
-    ∙ middle_not (fit ops (places_in_blocks (take i bs))) (fit ops (places_in_blocks (drop (i + 1) bs)))
+pub part_not : {X : Type 0} (f : X → List RowPlace) (ops : List (List Operation)) (bs : List X) (i : ℕ) (b : X) → i < length bs → b ≡ get_or bs i b
+    → fit ops (f b) ≡ false → fit ops (flat_map f bs) ≡ false
+part_not f ops bs i b l e here =
+    split_at f ops bs i b l e ∙ ap (λ m. (fit ops (flat_map f (take i bs)) && m) && fit ops (flat_map f (drop (i + 1) bs))) here
+    ∙ middle_not (fit ops (flat_map f (take i bs))) (fit ops (flat_map f (drop (i + 1) bs)))
 
-pub block_at : (ops : List (List Operation)) (bs : List Block) (i : ℕ) (b : Block) → i < length bs → b ≡ get_or bs i b
-    → fit ops (places_in_blocks bs) ≡ true → fit ops b.places.items ≡ true
-block_at ops bs i b l e all = by (fit ops b.places.items) refl
+pub part_at : {X : Type 0} (f : X → List RowPlace) (ops : List (List Operation)) (bs : List X) (i : ℕ) (b : X) → i < length bs → b ≡ get_or bs i b
+    → fit ops (flat_map f bs) ≡ true → fit ops (f b) ≡ true
+part_at f ops bs i b l e all = by (fit ops (f b)) refl
   where
-    by : (m : Bool) → fit ops b.places.items ≡ m → fit ops b.places.items ≡ true
+    by : (m : Bool) → fit ops (f b) ≡ m → fit ops (f b) ≡ true
     by true h = h
-    by false h = absurd (cc (all, block_not ops bs i b l e h))
+    by false h = absurd (cc (all, part_not f ops bs i b l e h))
 
 -- ---- the version in which a log is written
 

@@ -3,11 +3,14 @@ pub mod SameEnds
 pub mod Filling
 pub mod Fitting
 pub mod InBlocks
+pub mod InParts
+pub mod InRuns
 pub mod Joins
 pub mod Kept
 pub mod LogsOf
 pub mod Merges
 pub mod Merging
+pub mod Passing
 pub mod Places
 pub mod Pushes
 pub mod ReadBack

@@ -6,6 +6,7 @@ pub mod Merged
 pub mod Ordered
 pub mod Outcomes
 pub mod Places
+pub mod Runs
 pub mod Spares
 pub use Rattle.rt_ops.specs.File
 pub use Rattle.rt_ops.specs.Intake

@@ -7,22 +7,37 @@ ghost use Rattle.rt_ops.specs.File.{spelling, magic, record_of, file_of, fits, v
 ghost use Rattle.rt_ops.specs.Reading.{offsets_of, Reads};
 ghost use Rattle.rt_rows.specs.Places.{HasPlace, op_at};
 ghost use Rattle.rt_oplog.specs.Logs.{IsLog};
+ghost use Rattle.rt_oplog.specs.Runs.{places_in, places_of};
 
 use crate::OpLog;
 use crate::merge::op_in;
+use crate::run::Run;
 use rt_ops::spell::spell;
 use rt_ops::{Version, fits, magic};
-use rt_rows::{RowPlace, Rows};
+use rt_rows::Rows;
 use rt_stamps::{Fault, Sink, write_all};
 use std::alloc::Global;
 
-/// Whether the first version has room for the operations of these places.
-fn places_fit(ops: &Rows, places: &[RowPlace]) -> bool
-    requires { AllByRecursion (HasPlace ops.now.rows) places.now }
-    ensures { result ≡ list_all (fits One) (map (op_at ops.now.rows) places.now) }
+/// Whether the first version has room for the operations of a run.
+fn run_fits(ops: &Rows, run: Run) -> bool
+    requires { AllByRecursion (HasPlace ops.now.rows) (places_of run) }
+    ensures { result ≡ list_all (fits One) (map (op_at ops.now.rows) (places_of run)) }
 {
-    for place in places {
-        if !fits(Version::One, op_in(ops, *place)) {
+    for number in 0..run.len() {
+        if !fits(Version::One, op_in(ops, run.place(number))) {
+            return false;
+        }
+    }
+    true
+}
+
+/// Whether the first version has room for the operations of runs.
+fn places_fit(ops: &Rows, runs: &[Run]) -> bool
+    requires { AllByRecursion (HasPlace ops.now.rows) (places_in runs.now) }
+    ensures { result ≡ list_all (fits One) (map (op_at ops.now.rows) (places_in runs.now)) }
+{
+    for run in runs {
+        if !run_fits(ops, *run) {
             return false;
         }
     }
@@ -35,7 +50,7 @@ fn all_fit(log: &OpLog) -> bool
 {
     let (ops, blocks) = log.blocks();
     for block in blocks {
-        if !places_fit(ops, &block.places) {
+        if !places_fit(ops, &block.runs) {
             return false;
         }
     }
@@ -59,22 +74,42 @@ fn write_magic<W: Sink>(version: Version, out: &mut W) -> Result<(), Fault>
     write_all(out, magic(version).as_slice())
 }
 
-/// Writes the records of the operations of these places, each through the buffer.
+/// Writes the records of the operations of a run, each through the buffer.
+fn write_run<W: Sink>(
+    record: &mut Vec<u8>,
+    version: Version,
+    ops: &Rows,
+    run: Run,
+    out: &mut W,
+) -> Result<(), Fault>
+    requires within { AllByRecursion (HasPlace ops.now.rows) (places_of run) }
+    requires room { version ≡ One → list_all (fits One) (map (op_at ops.now.rows) (places_of run)) ≡ true }
+    ensures writes { WritesBuffered (W.stream out.old) (W.stream out.new) result (flat_map (record_of version) (map (op_at ops.now.rows) (places_of run))) }
+    ensures records { OnOk result (AllByRecursion (HasRecord version) (map (op_at ops.now.rows) (places_of run))) }
+{
+    for number in 0..run.len() {
+        spell(record, version, op_in(ops, run.place(number)))?;
+        write_all(out, record)?;
+    }
+    Ok(())
+}
+
+/// Writes the records of the operations of runs, each through the buffer.
 fn write_records<W: Sink>(
     record: &mut Vec<u8>,
     version: Version,
     ops: &Rows,
-    places: &[RowPlace],
+    runs: &[Run],
     out: &mut W,
 ) -> Result<(), Fault>
-    requires within { AllByRecursion (HasPlace ops.now.rows) places.now }
-    requires room { version ≡ One → list_all (fits One) (map (op_at ops.now.rows) places.now) ≡ true }
-    ensures writes { WritesBuffered (W.stream out.old) (W.stream out.new) result (flat_map (record_of version) (map (op_at ops.now.rows) places.now)) }
-    ensures records { OnOk result (AllByRecursion (HasRecord version) (map (op_at ops.now.rows) places.now)) }
+    requires within { AllByRecursion (HasPlace ops.now.rows) (places_in runs.now) }
+    requires room { version ≡ One → list_all (fits One) (map (op_at ops.now.rows) (places_in runs.now)) ≡ true }
+    ensures writes { WritesBuffered (W.stream out.old) (W.stream out.new) result
+        (flat_map (record_of version) (map (op_at ops.now.rows) (places_in runs.now))) }
+    ensures records { OnOk result (AllByRecursion (HasRecord version) (map (op_at ops.now.rows) (places_in runs.now))) }
 {
-    for place in places {
-        spell(record, version, op_in(ops, *place))?;
-        write_all(out, record)?;
+    for run in runs {
+        write_run(record, version, ops, *run, out)?;
     }
     Ok(())
 }
@@ -89,7 +124,7 @@ fn write_in<W: Sink>(alloc: Global, version: Version, log: &OpLog, out: &mut W) 
     let (ops, blocks) = log.blocks();
     let mut record = Vec::new(alloc);
     for block in blocks {
-        write_records(&mut record, version, ops, &block.places, out)?;
+        write_records(&mut record, version, ops, &block.runs, out)?;
     }
     Ok(())
 }

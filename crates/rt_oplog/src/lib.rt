@@ -9,6 +9,8 @@ pub mod laws;
 pub mod log;
 mod merge;
 mod order;
+mod run;
+mod runs;
 pub mod same;
 
 pub use file::write_file;

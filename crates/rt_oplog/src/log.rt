@@ -12,6 +12,7 @@ ghost use Rattle.rt_oplog.specs.Logs.{IsLog, IsFalling, holds, same_operation, c
 ghost use Rattle.rt_rows.specs.Places.{HasPlace, KeepsPlaces, op_at};
 ghost use Rattle.rt_oplog.specs.Kept.{newest_first, IsLogInRows, IsPutBehind, IsPutInOrder};
 ghost use Rattle.rt_oplog.specs.Blocks.{places_in_blocks};
+ghost use Rattle.rt_oplog.specs.Runs.{places_in, places_of};
 ghost use Rattle.rt_oplog.specs.Outcomes.{Pushes, MakesLog, Joins};
 
 use crate::Op;
@@ -19,6 +20,7 @@ use crate::block::Block;
 use crate::ends::Ends;
 use crate::merge::{ends_of, merge, op_in};
 use crate::order::Order;
+use crate::run::Run;
 use crate::same::{are_alike, is_clash};
 use rt_ops::OpView;
 use rt_rows::{RowPlace, Rows, TypedOp};
@@ -83,15 +85,30 @@ fn is_held(ops: &Rows, order: &Order, op: &Op) -> bool
     }
 }
 
-/// Whether an operation of the places clashes with this one.
-fn any_clash(ops: &Rows, order: &[RowPlace], op: &Op) -> bool
-    requires within { AllByRecursion (HasPlace ops.now.rows) order.now }
-    requires log { IsLog (newest_first ops.now.rows order.now) }
+/// Whether an operation of a run clashes with this one.
+fn any_clash_at(ops: &Rows, run: Run, op: &Op) -> bool
+    requires within { AllByRecursion (HasPlace ops.now.rows) (places_of run) }
+    requires log { IsLog (newest_first ops.now.rows (places_of run)) }
     requires sound { has_bad_stamp op.now ≡ false }
-    ensures { result ≡ list_any (λ place. clash op.now (op_at ops.now.rows place)) order.now }
+    ensures { result ≡ list_any (λ place. clash op.now (op_at ops.now.rows place)) (places_of run) }
 {
-    for place in order {
-        if is_clash(op, op_in(ops, *place)) {
+    for number in 0..run.len() {
+        if is_clash(op, op_in(ops, run.place(number))) {
+            return true;
+        }
+    }
+    false
+}
+
+/// Whether an operation of the places of runs clashes with this one.
+fn any_clash(ops: &Rows, runs: &[Run], op: &Op) -> bool
+    requires within { AllByRecursion (HasPlace ops.now.rows) (places_in runs.now) }
+    requires log { IsLog (newest_first ops.now.rows (places_in runs.now)) }
+    requires sound { has_bad_stamp op.now ≡ false }
+    ensures { result ≡ list_any (λ place. clash op.now (op_at ops.now.rows place)) (places_in runs.now) }
+{
+    for run in runs {
+        if any_clash_at(ops, *run, op) {
             return true;
         }
     }
@@ -106,7 +123,7 @@ fn any_clash_in(ops: &Rows, blocks: &[Block], op: &Op) -> bool
     ensures { result ≡ list_any (λ place. clash op.now (op_at ops.now.rows place)) (places_in_blocks blocks.now) }
 {
     for block in blocks {
-        if any_clash(ops, &block.places, op) {
+        if any_clash(ops, &block.runs, op) {
             return true;
         }
     }

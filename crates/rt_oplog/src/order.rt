@@ -1,13 +1,15 @@
 // Places in the order of their operations' stamps.
-ghost use Rattle.std.specs.Prelude.{◌≡◌, ℕ, ◌+◌, ◌^◌, ◌<◌, ◌≤◌, [], ◌∷◌, ◌++◌, length, slice_get, Some, vec_len, IsOk, OnOk, IfOk};
+ghost use Rattle.std.specs.Prelude.{◌≡◌, ℕ, ◌+◌, ◌*◌, ◌^◌, ◌<◌, ◌≤◌, [], ◌∷◌, ◌++◌, length, slice_get, Some, vec_len, IsOk, OnOk, IfOk};
 ghost use Rattle.std.specs.List.{insert};
 ghost use Rattle.rt_oplog.specs.Logs.{IsFalling};
 ghost use Rattle.rt_oplog.specs.Kept.{is_earlier, newest_first, leading};
 ghost use Rattle.rt_oplog.specs.Spares.{AreSpare};
-ghost use Rattle.rt_oplog.specs.Blocks.{places_in_blocks, room_of};
+ghost use Rattle.rt_oplog.specs.Blocks.{places_in_blocks, room_of, runs_of};
 
 use crate::block::Block;
 use crate::blocks::{append, find, flat, get, insert_in};
+use crate::run::Run;
+use crate::runs::{HALF, MOST};
 use rt_rows::{RowPlace, Rows};
 use rt_stamps::Stamp;
 use std::alloc::{AllocError, Global};
@@ -19,7 +21,7 @@ pub(crate) struct Order {
     alloc: Global,
     blocks: Vec<Block>,
     /// Blocks to be: empty, with the room of a block.
-    spare: Vec<Vec<RowPlace>>,
+    spare: Vec<Vec<Run>>,
     /// How many places there are.
     len: usize,
 }
@@ -48,31 +50,45 @@ impl Model for Order {
     ghost invariant = { IsOrdered };
 }
 
-/// How many blocks to be there must be, so that so many more places can be put in.
-fn spares_for(more: usize, len: usize, blocks: usize) -> usize
-    requires { len + more < 2 ^ 64 }
-    ensures enough { (spare : ℕ) → result ≤ spare → more ≤ room_of spare blocks len }
-    ensures least { (spare : ℕ) → more ≤ room_of spare blocks len → result ≤ spare }
+/// How many runs all blocks have, of so many places.
+fn count_runs(blocks: &[Block], len: usize) -> usize
+    requires { len ≡ length (places_in_blocks blocks.now) }
+    ensures runs { result ≡ runs_of blocks.now }
+    ensures few { result ≤ len }
 {
-    more.min((len + more).div_ceil(256).saturating_sub(blocks))
+    let mut runs = 0;
+    for block in blocks {
+        runs += block.runs.len();
+    }
+    runs
+}
+
+/// How many blocks to be there must be, so that so many more places can be put in.
+fn spares_for(more: usize, len: usize, runs: usize, blocks: usize) -> usize
+    requires few { runs ≤ len }
+    requires fits { len + 2 * more < 2 ^ 64 }
+    ensures enough { (spare : ℕ) → result ≤ spare → more ≤ room_of spare blocks runs len }
+    ensures least { (spare : ℕ) → more ≤ room_of spare blocks runs len → result ≤ spare }
+{
+    more.min((runs + 2 * more).div_ceil(HALF).saturating_sub(blocks))
 }
 
 /// One more block to be.
-fn push_spare(spare: &mut Vec<Vec<RowPlace>>, alloc: Global) -> Result<(), AllocError>
+fn push_spare(spare: &mut Vec<Vec<Run>>, alloc: Global) -> Result<(), AllocError>
     requires { AreSpare spare.old.items }
     ensures spares { AreSpare spare.new.items }
     ensures grows { vec_len spare.old ≤ vec_len spare.new }
     ensures one { vec_len spare.new ≤ vec_len spare.old + 1 }
     ensures ok { OnOk result (vec_len spare.new ≡ vec_len spare.old + 1) }
 {
-    let places = Vec::with_capacity(alloc, 512)?;
-    spare.push(places)?;
+    let runs = Vec::with_capacity(alloc, MOST)?;
+    spare.push(runs)?;
     Ok(())
 }
 
 /// As many blocks to be.
 #[inline(always)]
-fn fill(spare: &mut Vec<Vec<RowPlace>>, alloc: Global, count: usize) -> Result<(), AllocError>
+fn fill(spare: &mut Vec<Vec<Run>>, alloc: Global, count: usize) -> Result<(), AllocError>
     requires spares { AreSpare spare.old.items }
     requires bound { vec_len spare.old ≤ count }
     ensures spares { AreSpare spare.new.items }
@@ -120,10 +136,17 @@ impl Order {
         ensures kept { self.old.room ≤ self.new.room }
         ensures there { more ≤ self.old.room → IsOk result }
     {
-        let Some(_) = self.len.checked_add(more) else {
+        let Some(_) = more
+            .checked_mul(2)
+            .and_then(|twice| self.len.checked_add(twice))
+        else {
             return Err(AllocError);
         };
-        let count = spares_for(more, self.len, self.blocks.len()).max(self.spare.len());
+        if more <= self.spare.len() {
+            return Ok(());
+        }
+        let runs = count_runs(&self.blocks, self.len);
+        let count = spares_for(more, self.len, runs, self.blocks.len()).max(self.spare.len());
         self.blocks.reserve(count)?;
         fill(&mut self.spare, self.alloc, count)
     }

@@ -194,14 +194,6 @@ impl Op {
         self.prev
     }
 
-    /// Sets its `prev` to this count. Nothing else changes.
-    #[inline(always)]
-    pub fn go_on_from(&mut self, prev: u64)
-        ensures { self.new ≡ record { count = self.old.count; site = self.old.site; prev = prev; body = self.old.body } }
-    {
-        self.prev = prev;
-    }
-
     /// The first stamp.
     pub fn stamp(&self) -> Stamp
         ensures { result ≡ stamp_of self.now }
@@ -218,6 +210,20 @@ impl Op {
         ensures rules { keeps_rules self.now.body ≡ true }
     {
         &self.edit
+    }
+
+    /// What it does, by itself: the operation is used up.
+    pub fn into_edit(self) -> Edit
+        ensures body { body_of result ≡ self.body }
+        ensures rules { keeps_rules self.body ≡ true }
+    {
+        let Op {
+            count: _,
+            prev: _,
+            site: _,
+            edit,
+        } = self;
+        edit
     }
 
     /// The last count: that of the last character of an Insert, else the first. It is asked of operations

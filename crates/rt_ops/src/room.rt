@@ -40,7 +40,7 @@ fn has_room(version: Version, edit: EditView<'_>) -> bool
 }
 
 /// Whether a version has room for an operation: for its site, those that it names, and its tags. The second has room for
-/// each.
+/// each that keeps the rules of its fields.
 pub fn fits(version: Version, op: OpView<'_>) -> bool
     ensures { result ≡ fits version (operation_in op.entry) }
 {

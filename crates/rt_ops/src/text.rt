@@ -1,5 +1,5 @@
 // The text of an Insert.
-ghost use Rattle.std.specs.Prelude.{◌≡◌, ◌≢◌, ℕ, ◌∷◌, [], length, IfOk, IfNone, IfSome, IsOkUnless};
+ghost use Rattle.std.specs.Prelude.{◌≡◌, ◌≢◌, ℕ, ◌∷◌, [], length, IfOk, IfNone, IfSome, IsOk, IsOkUnless};
 ghost use Rattle.std.specs.Str.{chars};
 ghost use Rattle.rt_ops.specs.Rules.{is_text as is_text_of};
 ghost use Rattle.rt_stamps.specs.declared.fault.Fault.TheVariants.{NoMemory};
@@ -71,6 +71,7 @@ impl Text {
     /// A text of these characters, copied: a single one takes no memory. `NoMemory` is its only fault.
     pub fn copy_of(alloc: Global, characters: &[char]) -> Result<Text, Fault>
         ensures copy { IfOk result (λ text. text ≡ characters.now) }
+        ensures one { length characters.now ≡ 1 → IsOk result }
         ensures fault { IsOkUnless result NoMemory }
     {
         match characters {

@@ -1,64 +1,23 @@
 -- The tags on the last character of a new text are those of the text.
-use Rattle.std.proofs.Common.{◌≡◌, ℕ, zero, suc, ◌+◌, ◌≤◌, List, [], ◌∷◌, ◌++◌, Bool, true, false, cond, not, filter, length, take, drop, map, refl, sym, ◌∙◌, ap, subst, arith, append_assoc, length-take, take-append-drop, Option, Some, None}
+use Rattle.std.proofs.Common.{◌≡◌, ℕ, zero, suc, ◌+◌, ◌≤◌, List, [], ◌∷◌, ◌++◌, Bool, true, false, cond, not, filter, length, take, drop, map, refl, sym, ◌∙◌, ap, subst, arith, length-take, take-append-drop, Option, Some, None}
 use Rattle.std.specs.Prelude.{option_map}
 use Rattle.std.specs.List.{AllByRecursion}
-use Rattle.std.specs.Ordering.{is_eq, is_gt, is_lt}
 use Rattle.std.specs.Str.{bytes_eq}
 use Rattle.std.specs.declared.cmp.Ordering.TheVariants.{Less}
-use Rattle.std.proofs.lemmas.List.{append-nil}
-use Rattle.std.proofs.lemmas.Map.Text.{is_eq-slice_cmp}
 use Rattle.rt_stamps.specs.declared.limits.TheConstants.{MOST_CHARACTERS, MOST_TAGS}
 use Rattle.rt_stamps.specs.declared.stamp.TheConstants.{ROOT}
 use Rattle.rt_stamps.specs.Names.{name_order}
 use Rattle.rt_stamps.specs.Words.{Word}
-use Rattle.rt_tags.specs.States.{IsByName, Write, writes_above, writes_below, is_kept, names_on, write_of, written}
+use Rattle.rt_tags.specs.States.{IsByName, Write, names_on}
 use Rattle.rt_tags.specs.Tags.{sel}
 use Rattle.rt_tags.specs.Writers.{listed_by, state_after}
-use Rattle.rt_tags.proofs.Commuting.{back_other}
 use Rattle.rt_rga.proofs.Writes.{state_sorted}
+pub use Rattle.rt_changes.proofs.TagNames.{after_rising}
 use Rattle.rt_store.specs.Cells.{cells_from}
 use Rattle.rt_store.specs.Shown.{TaggedCell}
 use Rattle.rt_plans.specs.Insertions.{cells_of_inserts, further_tags, new_state, on_left, put_on, shared_names, tagged_cells}
 use Rattle.rt_plans.proofs.InsertTexts.{last_append}
 use Rattle.rt_plans.proofs.Planning.{cells_more}
-
--- WRITES THAT RISE
-
-unequal : (a b : Word) → name_order a b ≡ Less → bytes_eq b a ≡ false
-unequal a b h = back_other a b (sym (is_eq-slice_cmp a b) ∙ ap is_eq h)
-
-none_before : (w : Write) (front : List Write) → AllByRecursion (λ v. name_order v.name w.name ≡ Less) front → write_of w.name front ≡ None
-none_before w [] h = refl
-none_before w (v ∷ front) h = ap (λ b. cond b (Some v) (write_of w.name front)) (unequal v.name w.name h.0) ∙ none_before w front h.1
-
-all_below : (w : Write) (front : List Write) → AllByRecursion (λ v. name_order v.name w.name ≡ Less) front → writes_below w.name front ≡ front
-all_below w [] h = refl
-all_below w (v ∷ front) h = ap (λ o. cond (is_lt o) (v ∷ writes_below w.name front) (writes_below w.name front)) h.0 ∙ ap (λ l. v ∷ l) (all_below w front h.1)
-
-none_over : (w : Write) (front : List Write) → AllByRecursion (λ v. name_order v.name w.name ≡ Less) front → writes_above w.name front ≡ []
-none_over w [] h = refl
-none_over w (v ∷ front) h = ap (λ o. cond (is_gt o) (v ∷ writes_above w.name front) (writes_above w.name front)) h.0 ∙ none_over w front h.1
-
-written_last : (w : Write) (front : List Write) → AllByRecursion (λ v. name_order v.name w.name ≡ Less) front → written w front ≡ front ++ w ∷ []
-written_last w front h =
-    ap (λ o. cond (is_kept o w) front (writes_below w.name front ++ w ∷ writes_above w.name front)) (none_before w front h)
-    ∙ (λ i. all_below w front h i ++ w ∷ none_over w front h i)
-
-front_less : (front : List Write) (w : Write) (ws : List Write) → IsByName (front ++ w ∷ ws) → AllByRecursion (λ v. name_order v.name w.name ≡ Less) front
-front_less [] w ws h = tt
-front_less (v ∷ front) w ws h = (at front h.0, front_less front w ws h.1)
-  where
-    at : (front : List Write) → AllByRecursion (λ x. name_order v.name x.name ≡ Less) (front ++ w ∷ ws) → name_order v.name w.name ≡ Less
-    at [] k = k.0
-    at (x ∷ front) k = at front k.1
-
-pub after_rising : (front ws : List Write) → IsByName (front ++ ws) → state_after front ws ≡ front ++ ws
-after_rising front [] h = sym (append-nil front)
-after_rising front (w ∷ ws) h =
-    let joined : (front ++ w ∷ []) ++ ws ≡ front ++ w ∷ ws = append_assoc front (w ∷ []) ws in
-    ap (λ s. state_after s ws) (written_last w front (front_less front w ws h))
-    ∙ after_rising (front ++ w ∷ []) ws (subst IsByName (sym joined) h)
-    ∙ joined
 
 -- NAMES THAT RISE
 

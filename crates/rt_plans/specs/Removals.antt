@@ -8,6 +8,8 @@ use Rattle.rt_stamps.specs.Stamps.{is_same}
 use Rattle.rt_store.specs.declared.cell.Cell.{Cell}
 use Rattle.rt_plans.specs.NamedSpans.{parts_for}
 use Rattle.rt_plans.specs.declared.range.Range.{Range}
+-- what is left of a text without the characters at some places is `left_at`
+pub use Rattle.rt_changes.specs.Replays.{left_at}
 
 -- a place is in a range
 abbrev pub is_in : Range → ℕ → Bool
@@ -55,11 +57,6 @@ stamps_at removed place (cell ∷ cells) =
     if cell.gone then stamps_at removed place cells
     else if removed place then cell.stamp ∷ stamps_at removed (place + 1) cells
     else stamps_at removed (place + 1) cells
-
--- the characters at places that aren't removed; the first one stands at this place
-abbrev pub left_at : (ℕ → Bool) → ℕ → List ℕ → List ℕ
-left_at removed place [] = []
-left_at removed place (c ∷ text) = if removed place then left_at removed (place + 1) text else c ∷ left_at removed (place + 1) text
 
 -- Spans are the longest runs of consecutive counts of one site. Each has a last stamp: one whose next isn't among them.
 abbrev pub span_count : List Stamp → ℕ

@@ -15,8 +15,8 @@ use Rattle.rt_undo.specs.Actions.{Action, Removed, action_of, is_replace, remove
 use Rattle.rt_undo.specs.Groups.{IsStill}
 use Rattle.rt_undo.specs.Renames.{SpanMapValue, is_moved}
 use Rattle.rt_undo.specs.Seen.{UndoStacks}
-use Rattle.rt_undo.specs.Undo.{UndoHistory, as_group, asks_separator, differs_from, dropped, emptied, forced_on, is_modified, last, limited, numbers, numbers_in, recorded, rest_after, same_numbers, separated, to_undo, too_many, unmodified, with_action, with_most}
-use Rattle.rt_undo.proofs.Histories.{last_map}
+use Rattle.rt_undo.specs.Undo.{UndoHistory, as_group, asks_separator, differs_from, dropped, emptied, forced_on, is_modified, newest, limited, numbers, numbers_in, recorded, rest_after, same_numbers, separated, to_undo, too_many, unmodified, with_action, with_most}
+use Rattle.rt_undo.proofs.Histories.{newest_map}
 use Rattle.rt_recording.specs.declared.recorder.Prepared.{Prepared}
 use Rattle.rt_recording.specs.declared.recorder.Recorder.TheInside.{Inside}
 use Rattle.rt_recording.specs.Naming.{AreGiven, HistoryIsGiven, RemovedAreGiven, named_action, named_group, named_history, named_removed}
@@ -58,8 +58,8 @@ differs_named t kind (Some a) = refl
 
 asks_named : (t : TagStates) (kind : Kind) (h : UndoHistory ℕ) → asks_separator kind (named_history t h) ≡ asks_separator kind h
 asks_named t kind h =
-    ap (λ o. is_replace kind || differs_from kind o) (last_map (named_action t) h.current)
-    ∙ ap (λ b. is_replace kind || b) (differs_named t kind (last h.current))
+    ap (λ o. is_replace kind || differs_from kind o) (newest_map (named_action t) h.current)
+    ∙ ap (λ b. is_replace kind || b) (differs_named t kind (newest h.current))
 
 begun_named : (t : TagStates) (b : Bool) (h : UndoHistory ℕ) → named_history t (if b then separated h else h) ≡ (if b then separated (named_history t h) else named_history t h)
 begun_named t true h = separated_named t h

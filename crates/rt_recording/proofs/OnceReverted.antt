@@ -17,7 +17,7 @@ use Rattle.rt_plans.specs.DraftLaws.{IsDocument}
 use Rattle.rt_plans.specs.DocValue.{DocValue}
 use Rattle.rt_plans.specs.Removals.{cells_at}
 use Rattle.rt_undo.specs.Actions.{Action, Removed, restamped_one}
-use Rattle.rt_undo.specs.Undo.{UndoHistory, as_group, but_last, last, redo_done, renamed_by, to_undo, undo_done, with_stamps_in}
+use Rattle.rt_undo.specs.Undo.{UndoHistory, as_group, but_newest, newest, redo_done, renamed_by, to_undo, undo_done, with_stamps_in}
 use Rattle.rt_revert.specs.Reverting.{Reversion, are_at, as_it_is, gone_cell_of, next_in, reversion, reverted_group, since, still_visible, with_each_reverted, with_insertion, with_removal, with_return, with_returns, with_reverted}
 use Rattle.rt_revert.specs.ReversionLaws.{AllMayRevert, MayReturn, MayRevert}
 use Rattle.rt_revert.proofs.Stamps.{all_apart}
@@ -316,16 +316,16 @@ groups_now f [] = refl
 groups_now f (group ∷ groups) = (λ i. taken_now f group i ++ groups_now f groups i) ∙ sym (map-append f (taken_by group) (flat_map taken_by groups))
 
 -- all groups but the last one, and that
-last_parts : (s : Stamp) (groups : List (List (Action (List Word)))) (group : List (Action (List Word))) → last groups ≡ Some group
-    → in_groups s (but_last groups) + times s (taken_by group) ≡ in_groups s groups
+last_parts : (s : Stamp) (groups : List (List (Action (List Word)))) (group : List (Action (List Word))) → newest groups ≡ Some group
+    → in_groups s (but_newest groups) + times s (taken_by group) ≡ in_groups s groups
 last_parts s [] group e = absurd (cc e)
-last_parts s (g ∷ []) group e = let same : g ≡ group = cc e in let one = in_one s g in subst (λ (x : List (Action (List Word))). in_groups s (but_last (g ∷ [])) + times s (taken_by x) ≡ in_groups s (g ∷ [])) same (omega (arith, one))
+last_parts s (g ∷ []) group e = let same : g ≡ group = cc e in let one = in_one s g in subst (λ (x : List (Action (List Word))). in_groups s (but_newest (g ∷ [])) + times s (taken_by x) ≡ in_groups s (g ∷ [])) same (omega (arith, one))
 last_parts s (g ∷ h ∷ groups) group e =
     let at : length (g ∷ h ∷ groups) - 1 ≡ suc (length (h ∷ groups) - 1) = omega arith in
-    let still : last (h ∷ groups) ≡ Some group = sym (ap (slice_get (g ∷ h ∷ groups)) at) ∙ e in
-    let front : in_groups s (but_last (g ∷ h ∷ groups)) ≡ in_groups s (g ∷ but_last (h ∷ groups)) = ap (λ n. in_groups s (take n (g ∷ h ∷ groups))) at in
+    let still : newest (h ∷ groups) ≡ Some group = sym (ap (slice_get (g ∷ h ∷ groups)) at) ∙ e in
+    let front : in_groups s (but_newest (g ∷ h ∷ groups)) ≡ in_groups s (g ∷ but_newest (h ∷ groups)) = ap (λ n. in_groups s (take n (g ∷ h ∷ groups))) at in
     let rest = last_parts s (h ∷ groups) group still in
-    let a = times_append s (taken_by g) (flat_map taken_by (but_last (h ∷ groups))) in
+    let a = times_append s (taken_by g) (flat_map taken_by (but_newest (h ∷ groups))) in
     let b = times_append s (taken_by g) (flat_map taken_by (h ∷ groups)) in
     omega (arith, front, rest, a, b)
 
@@ -336,33 +336,33 @@ to_undo_now f h = ap (λ l. map (with_stamps_in f) h.closed ++ l) (by h.current)
     by [] = refl
     by (action ∷ group) = refl
 
-but_last_now : (f : Stamp → Stamp) (groups : List (List (Action (List Word)))) → but_last (map (with_stamps_in f) groups) ≡ map (with_stamps_in f) (but_last groups)
-but_last_now f groups = (λ i. take (length-map groups (with_stamps_in {T = List Word} f) i - 1) (map (with_stamps_in f) groups)) ∙ take-map (with_stamps_in f) (length groups - 1) groups
+but_newest_now : (f : Stamp → Stamp) (groups : List (List (Action (List Word)))) → but_newest (map (with_stamps_in f) groups) ≡ map (with_stamps_in f) (but_newest groups)
+but_newest_now f groups = (λ i. take (length-map groups (with_stamps_in {T = List Word} f) i - 1) (map (with_stamps_in f) groups)) ∙ take-map (with_stamps_in f) (length groups - 1) groups
 
 -- the others of a group that is undone, and of one that is redone
 abbrev pub beside_undone : UndoHistory (List Word) → List Stamp
-beside_undone h = flat_map taken_by (but_last (to_undo h)) ++ flat_map taken_by h.undone
+beside_undone h = flat_map taken_by (but_newest (to_undo h)) ++ flat_map taken_by h.undone
 
 abbrev pub beside_redone : UndoHistory (List Word) → List Stamp
-beside_redone h = flat_map taken_by (to_undo h) ++ flat_map taken_by (but_last h.undone)
+beside_redone h = flat_map taken_by (to_undo h) ++ flat_map taken_by (but_newest h.undone)
 
-pub before_undo : (cells : List TaggedCell) (h : UndoHistory (List Word)) (group : List (Action (List Word))) → last (to_undo h) ≡ Some group → AreGoneOnce cells (removed_in_history h)
+pub before_undo : (cells : List TaggedCell) (h : UndoHistory (List Word)) (group : List (Action (List Word))) → newest (to_undo h) ≡ Some group → AreGoneOnce cells (removed_in_history h)
     → AreGoneOnce cells (taken_by group ++ beside_undone h)
 before_undo cells h group e = once_fewer cells (taken_by group ++ beside_undone h) (removed_in_history h) (λ s.
     let parts = last_parts s (to_undo h) group e in
     let undo = in_to_undo s h in
     let a = times_append s (taken_by group) (beside_undone h) in
-    let b = times_append s (flat_map taken_by (but_last (to_undo h))) (flat_map taken_by h.undone) in
+    let b = times_append s (flat_map taken_by (but_newest (to_undo h))) (flat_map taken_by h.undone) in
     let all = in_history s h in
     omega (arith, parts, undo, a, b, all))
 
-pub before_redo : (cells : List TaggedCell) (h : UndoHistory (List Word)) (group : List (Action (List Word))) → last h.undone ≡ Some group → AreGoneOnce cells (removed_in_history h)
+pub before_redo : (cells : List TaggedCell) (h : UndoHistory (List Word)) (group : List (Action (List Word))) → newest h.undone ≡ Some group → AreGoneOnce cells (removed_in_history h)
     → AreGoneOnce cells (taken_by group ++ beside_redone h)
 before_redo cells h group e = once_fewer cells (taken_by group ++ beside_redone h) (removed_in_history h) (λ s.
     let parts = last_parts s h.undone group e in
     let undo = in_to_undo s h in
     let a = times_append s (taken_by group) (beside_redone h) in
-    let b = times_append s (flat_map taken_by (to_undo h)) (flat_map taken_by (but_last h.undone)) in
+    let b = times_append s (flat_map taken_by (to_undo h)) (flat_map taken_by (but_newest h.undone)) in
     let all = in_history s h in
     omega (arith, parts, undo, a, b, all))
 
@@ -370,25 +370,25 @@ pub after_undo : (cells : List TaggedCell) (f : Stamp → Stamp) (h : UndoHistor
     → AreGoneOnce cells (map f (beside_undone h) ++ taken_by reverted) → AreGoneOnce cells (removed_in_history (undo_done reverted (renamed_by f h)))
 after_undo cells f h reverted = once_fewer cells (removed_in_history (undo_done reverted (renamed_by f h))) (map f (beside_undone h) ++ taken_by reverted) (λ s.
     let all = in_history s (undo_done reverted (renamed_by f h)) in
-    let closed = ap (λ l. in_groups s (but_last l)) (to_undo_now f h) ∙ ap (in_groups s) (but_last_now f (to_undo h)) ∙ ap (times s) (groups_now f (but_last (to_undo h))) in
+    let closed = ap (λ l. in_groups s (but_newest l)) (to_undo_now f h) ∙ ap (in_groups s) (but_newest_now f (to_undo h)) ∙ ap (times s) (groups_now f (but_newest (to_undo h))) in
     let undone = in_groups_append s (map (with_stamps_in f) h.undone) (reverted ∷ []) in
     let one = in_one s reverted in
     let old = ap (times s) (groups_now f h.undone) in
     let a = times_append s (map f (beside_undone h)) (taken_by reverted) in
-    let b = by_append s f (flat_map taken_by (but_last (to_undo h))) (flat_map taken_by h.undone) in
+    let b = by_append s f (flat_map taken_by (but_newest (to_undo h))) (flat_map taken_by h.undone) in
     omega (arith, all, closed, undone, one, old, a, b))
 
 pub after_redo : (cells : List TaggedCell) (f : Stamp → Stamp) (h : UndoHistory (List Word)) (reverted : List (Action (List Word)))
     → AreGoneOnce cells (map f (beside_redone h) ++ taken_by reverted) → AreGoneOnce cells (removed_in_history (redo_done reverted (renamed_by f h)))
 after_redo cells f h reverted = once_fewer cells (removed_in_history (redo_done reverted (renamed_by f h))) (map f (beside_redone h) ++ taken_by reverted) (λ s.
     let now = renamed_by f h in
-    let whole : UndoHistory (List Word) = record now { closed = to_undo now ++ reverted ∷ []; current = []; undone = but_last now.undone } in
+    let whole : UndoHistory (List Word) = record now { closed = to_undo now ++ reverted ∷ []; current = []; undone = but_newest now.undone } in
     let fewer = in_limited s whole in
     let all = in_history s whole in
     let closed = in_groups_append s (to_undo (renamed_by f h)) (reverted ∷ []) in
     let undo = ap (in_groups s) (to_undo_now f h) ∙ ap (times s) (groups_now f (to_undo h)) in
     let one = in_one s reverted in
-    let undone = ap (in_groups s) (but_last_now f h.undone) ∙ ap (times s) (groups_now f (but_last h.undone)) in
+    let undone = ap (in_groups s) (but_newest_now f h.undone) ∙ ap (times s) (groups_now f (but_newest h.undone)) in
     let a = times_append s (map f (beside_redone h)) (taken_by reverted) in
-    let b = by_append s f (flat_map taken_by (to_undo h)) (flat_map taken_by (but_last h.undone)) in
+    let b = by_append s f (flat_map taken_by (to_undo h)) (flat_map taken_by (but_newest h.undone)) in
     omega (arith, fewer, all, closed, undo, one, undone, a, b))

@@ -11,8 +11,8 @@ use Rattle.rt_undo.specs.declared.renames.Move.{Move}
 use Rattle.rt_undo.specs.Actions.{Action, Removed, restamped, restamped_one}
 use Rattle.rt_undo.specs.Groups.{NoneMoves}
 use Rattle.rt_undo.specs.Renames.{SpanMapValue, is_moved, replaced}
-use Rattle.rt_undo.specs.Undo.{UndoHistory, as_group, but_last, last, limited, next_redo, next_undo, redo_done, renamed_by, to_undo, too_many, undo_done, with_stamps_in}
-use Rattle.rt_undo.proofs.Histories.{but_last_map, last_map, to_undo_renamed}
+use Rattle.rt_undo.specs.Undo.{UndoHistory, as_group, but_newest, newest, limited, next_redo, next_undo, redo_done, renamed_by, to_undo, too_many, undo_done, with_stamps_in}
+use Rattle.rt_undo.proofs.Histories.{but_newest_map, newest_map, to_undo_renamed}
 use Rattle.rt_recording.specs.Naming.{AreGiven, HistoryIsGiven, RemovedAreGiven, named_group, named_history, named_removed}
 use Rattle.rt_recording.specs.Recordings.{HaveStayed}
 use Rattle.rt_recording.specs.Returns.{AreReturns, IsReturn, Return, back_after, back_with, stamp_after}
@@ -153,7 +153,7 @@ renamed_named t f h = λ i. record {
 undo_done_named : (t : TagStates) (reverted : List (Action ℕ)) (h : UndoHistory ℕ)
     → named_history t (undo_done reverted h) ≡ undo_done (named_group t reverted) (named_history t h)
 undo_done_named t reverted h = λ i. record {
-  closed = (sym (but_last_map (named_group t) (to_undo h)) ∙ ap (λ l. but_last l) (sym (to_undo_named t h))) i;
+  closed = (sym (but_newest_map (named_group t) (to_undo h)) ∙ ap (λ l. but_newest l) (sym (to_undo_named t h))) i;
   current = [];
   undone = map-append (named_group t) h.undone (reverted ∷ []) i;
   kept = h.kept;
@@ -164,12 +164,12 @@ undo_done_named t reverted h = λ i. record {
 redo_done_named : (t : TagStates) (reverted : List (Action ℕ)) (h : UndoHistory ℕ)
     → named_history t (redo_done reverted h) ≡ redo_done (named_group t reverted) (named_history t h)
 redo_done_named t reverted h =
-    let all : UndoHistory ℕ = record h { closed = to_undo h ++ reverted ∷ []; current = []; undone = but_last h.undone } in
+    let all : UndoHistory ℕ = record h { closed = to_undo h ++ reverted ∷ []; current = []; undone = but_newest h.undone } in
     limited_named t all
     ∙ (λ i. limited (record {
       closed = (map-append (named_group t) (to_undo h) (reverted ∷ []) ∙ ap (λ l. l ++ named_group t reverted ∷ []) (sym (to_undo_named t h))) i;
       current = [];
-      undone = sym (but_last_map (named_group t) h.undone) i;
+      undone = sym (but_newest_map (named_group t) h.undone) i;
       kept = h.kept;
       forced = h.forced;
       most = h.most;
@@ -201,22 +201,22 @@ pub some_undo : (t : TagStates) (f : Stamp → Stamp) (old between : UndoHistory
     → is_some (next_undo between) ≡ true
 some_undo t f old between b e =
     ap (λ h. is_some (next_undo h)) b
-    ∙ ap (λ l. is_some (last l)) (to_undo_renamed f old)
-    ∙ ap (λ o. is_some o) (last_map (with_stamps_in {T = ℕ} f) (to_undo old))
-    ∙ some_map (with_stamps_in {T = ℕ} f) (last (to_undo old))
-    ∙ sym (some_map (named_group t) (last (to_undo old)))
-    ∙ sym (ap (λ o. is_some o) (last_map (named_group t) (to_undo old)))
-    ∙ sym (ap (λ l. is_some (last l)) (to_undo_named t old))
+    ∙ ap (λ l. is_some (newest l)) (to_undo_renamed f old)
+    ∙ ap (λ o. is_some o) (newest_map (with_stamps_in {T = ℕ} f) (to_undo old))
+    ∙ some_map (with_stamps_in {T = ℕ} f) (newest (to_undo old))
+    ∙ sym (some_map (named_group t) (newest (to_undo old)))
+    ∙ sym (ap (λ o. is_some o) (newest_map (named_group t) (to_undo old)))
+    ∙ sym (ap (λ l. is_some (newest l)) (to_undo_named t old))
     ∙ e
 
 pub some_redo : (t : TagStates) (f : Stamp → Stamp) (old between : UndoHistory ℕ) → between ≡ renamed_by f old → is_some (next_redo (named_history t old)) ≡ true
     → is_some (next_redo between) ≡ true
 some_redo t f old between b e =
     ap (λ h. is_some (next_redo h)) b
-    ∙ ap (λ o. is_some o) (last_map (with_stamps_in {T = ℕ} f) old.undone)
-    ∙ some_map (with_stamps_in {T = ℕ} f) (last old.undone)
-    ∙ sym (some_map (named_group t) (last old.undone))
-    ∙ sym (ap (λ o. is_some o) (last_map (named_group t) old.undone))
+    ∙ ap (λ o. is_some o) (newest_map (with_stamps_in {T = ℕ} f) old.undone)
+    ∙ some_map (with_stamps_in {T = ℕ} f) (newest old.undone)
+    ∙ sym (some_map (named_group t) (newest old.undone))
+    ∙ sym (ap (λ o. is_some o) (newest_map (named_group t) old.undone))
     ∙ e
 
 removed_still : (t : TagStates) (back : Stamp → Bool) (removed : List (Removed ℕ)) → AllByRecursion (λ r. back r.stamp ≡ false) (map (named_removed t) removed)
@@ -246,10 +246,10 @@ group_stayed t moves (a ∷ group) still =
 
 -- the next groups, with the names of tags
 pub undo_named : (t : TagStates) (h : UndoHistory ℕ) → next_undo (named_history t h) ≡ option_map (named_group t) (next_undo h)
-undo_named t h = ap (λ l. last l) (to_undo_named t h) ∙ last_map (named_group t) (to_undo h)
+undo_named t h = ap (λ l. newest l) (to_undo_named t h) ∙ newest_map (named_group t) (to_undo h)
 
 pub redo_named : (t : TagStates) (h : UndoHistory ℕ) → next_redo (named_history t h) ≡ option_map (named_group t) (next_redo h)
-redo_named t h = last_map (named_group t) h.undone
+redo_named t h = newest_map (named_group t) h.undone
 
 pub none_from : {A B : Type 0} (f : A → B) (o : Option A) → option_map f o ≡ None → o ≡ None
 none_from f None e = refl
@@ -296,7 +296,7 @@ given_limited t h given = record { closed = every_drop (AreGiven t) (too_many h)
 
 pub given_redone : (t : TagStates) (reverted : List (Action ℕ)) (h : UndoHistory ℕ) → HistoryIsGiven t h → AreGiven t reverted → HistoryIsGiven t (redo_done reverted h)
 given_redone t reverted h given r =
-    let all : UndoHistory ℕ = record h { closed = to_undo h ++ reverted ∷ []; current = []; undone = but_last h.undone } in
+    let all : UndoHistory ℕ = record h { closed = to_undo h ++ reverted ∷ []; current = []; undone = but_newest h.undone } in
     given_limited t all (record {
       closed = every_append (AreGiven t) (to_undo h) (reverted ∷ []) (to_undo_given t h given) (r, tt);
       current = tt;

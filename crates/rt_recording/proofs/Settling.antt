@@ -9,7 +9,7 @@ use Rattle.rt_rga.specs.Cells.{cells_of}
 use Rattle.rt_rga.specs.Histories.{IsHistory, greatest_last_count}
 use Rattle.rt_plans.specs.DocValue.{DocValue}
 use Rattle.rt_undo.specs.Actions.{Action}
-use Rattle.rt_undo.specs.Undo.{UndoHistory, as_group, but_last, redo_done, renamed_by, to_undo, too_many, undo_done, with_stamps_in}
+use Rattle.rt_undo.specs.Undo.{UndoHistory, as_group, but_newest, redo_done, renamed_by, to_undo, too_many, undo_done, with_stamps_in}
 use Rattle.rt_revert.specs.Reverting.{reversion, reverted, reverted_group}
 use Rattle.rt_revert.specs.ReversionLaws.{AllMayRevert}
 use Rattle.rt_revert.proofs.Soundness.{group_renamed}
@@ -102,7 +102,7 @@ sound_redone returns reverted old between new others r k b e =
     let h = renamed_by (stamp_after returns) between in
     let s = renamed_sound returns between others (subst HistoryIsSound (sym b) k) in
     let groups = to_undo h ++ reverted ∷ [] in
-    let all : UndoHistory (List Word) = record h { closed = groups; current = []; undone = but_last h.undone } in
+    let all : UndoHistory (List Word) = record h { closed = groups; current = []; undone = but_newest h.undone } in
     let done : HistoryIsSound (redo_done reverted h) = record {
       closed = every_drop AllMayRevert (too_many all) groups (every_append AllMayRevert (to_undo h) (reverted ∷ []) (to_undo_sound h s) (r, tt));
       current = tt;

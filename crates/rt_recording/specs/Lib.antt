@@ -9,7 +9,6 @@ pub mod Reversals
 pub mod Reverts
 pub mod Seen
 pub mod Settled
-pub use Rattle.rt_ops.specs.File
 pub use Rattle.rt_rga.specs.Answers
 pub use Rattle.rt_text.specs.Accepted
 pub use Rattle.rt_text.specs.Widgets

@@ -1,6 +1,6 @@
 //! Edits of a text with what its site records of them for undo (Tk text manual, "The undo mechanism"):
-//! insertions, removals, replacements, operations of other sites, undo and redo; and the file of its log. The
-//! definitions stand in `specs/Recordings.antt`, `specs/Edits.antt` and `specs/Reverts.antt`.
+//! insertions, removals, replacements, operations of other sites, undo and redo. The definitions stand in
+//! `specs/Recordings.antt`, `specs/Edits.antt` and `specs/Reverts.antt`.
 #![tactic(auto)]
 
 mod before;
@@ -12,9 +12,7 @@ mod noting;
 mod own;
 pub mod recorder;
 pub mod reverting;
-pub mod sending;
 
 pub use editing::{delete, insert, replace, take};
 pub use recorder::Recorder;
 pub use reverting::{redo, undo};
-pub use sending::export;

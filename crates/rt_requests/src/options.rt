@@ -103,7 +103,7 @@ fn shared(word: &str) -> Option<NamedOption>
 }
 
 /// The truth that a word tells: one of the words for yes, or for no. It takes no memory.
-pub fn truth_of(word: &str) -> Option<bool>
+pub(crate) fn truth_of(word: &str) -> Option<bool>
     ensures { result ≡ truth_of word.now }
 {
     match word {

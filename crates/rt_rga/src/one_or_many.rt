@@ -1,5 +1,5 @@
 // Lists that are mostly of one.
-ghost use Rattle.std.specs.Prelude.{◌≡◌, ◌++◌, ◌∷◌, [], IsOkUnless, OnErr, OnOk};
+ghost use Rattle.std.specs.Prelude.{◌≡◌, ◌++◌, ◌∷◌, [], IsOk, IsOkUnless, OnErr, OnOk};
 ghost use Rattle.rt_stamps.specs.declared.fault.Fault.{Fault};
 ghost use Rattle.rt_rga.specs.OneOrMany.{items_in};
 
@@ -45,6 +45,7 @@ impl<T: Drop> OneOrMany<T> {
     pub fn push(&mut self, alloc: Global, item: T) -> Result<(), Fault>
         ensures ok { OnOk result (items_in self.new ≡ items_in self.old ++ item ∷ []) }
         ensures same { OnErr result (items_in self.new ≡ items_in self.old) }
+        ensures first { items_in self.old ≡ [] → IsOk result }
         ensures err { IsOkUnless result Fault.NoMemory }
     {
         match self {
@@ -64,11 +65,12 @@ impl<T: Drop> OneOrMany<T> {
         Ok(())
     }
 
-    /// Adds the items of another list behind the others; those of a list of one as `push` does. Want of memory,
-    /// and then the items are as they were.
+    /// Adds the items of another list behind the others: behind none they take no memory. Want of memory, and then the items
+    /// are as they were.
     pub fn append(&mut self, alloc: Global, more: OneOrMany<T>) -> Result<(), Fault>
         ensures ok { OnOk result (items_in self.new ≡ items_in self.old ++ items_in more) }
         ensures same { OnErr result (items_in self.new ≡ items_in self.old) }
+        ensures first { items_in self.old ≡ [] → IsOk result }
         ensures err { IsOkUnless result Fault.NoMemory }
     {
         match more {
@@ -81,6 +83,7 @@ impl<T: Drop> OneOrMany<T> {
     fn append_list(&mut self, alloc: Global, more: Vec<T>) -> Result<(), Fault>
         ensures ok { OnOk result (items_in self.new ≡ items_in self.old ++ more.items) }
         ensures same { OnErr result (items_in self.new ≡ items_in self.old) }
+        ensures first { items_in self.old ≡ [] → IsOk result }
         ensures err { IsOkUnless result Fault.NoMemory }
     {
         let mut more = more;

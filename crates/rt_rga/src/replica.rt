@@ -96,6 +96,7 @@ impl<S: TextStore> Replica<S> {
         requires limit { (1 ≤ limit) × (limit ≤ MOST_CELLS) }
         ensures log { IfOk result (λ replica. replica.log ≡ []) }
         ensures cells { IfOk result (λ replica. replica.cells ≡ cells_of []) }
+        ensures table { IfOk result (λ replica. replica.table ≡ record { names = []; states = [] ∷ [] }) }
         ensures site { IfOk result (λ replica. replica.site ≡ site.number) }
         ensures limit { IfOk result (λ replica. replica.limit ≡ limit) }
         ensures fault { IsOkUnless result Fault.NoMemory }

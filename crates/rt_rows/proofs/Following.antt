@@ -2,12 +2,15 @@
 use Rattle.std.proofs.Common.{◌≡◌, ℕ, zero, suc, ◌+◌, ◌-◌, ◌<◌, ◌≤◌, Bool, true, refl, sym, ap, ◌∙◌, subst, arith, List, [], ◌∷◌, ◌++◌, length, ◌&&◌, ◌==◌, get_or, Some, Option}
 use Rattle.std.proofs.lemmas.Bool.Decides.{nat_tests}
 use Rattle.std.specs.Prelude.{slice_get}
+use Rattle.std.specs.Cmp.Lexicographic.{bytes_decides, pointwise_decides}
 use Rattle.rt_stamps.specs.declared.stamp.Stamp.{Stamp}
 use Rattle.rt_stamps.specs.Stamps.{is_same}
 use Rattle.rt_stamps.proofs.Order.{same_refl, same_from_true}
-use Rattle.rt_ops.specs.Operations.{Body, Insert, Delete, Tag, Operation, stamp_of}
+use Rattle.rt_ops.specs.Operations.{Name, Body, Insert, Delete, Tag, Operation, stamp_of}
 use Rattle.rt_rows.specs.declared.row.RowStart.{RowStart}
-use Rattle.rt_rows.specs.Rows.{TypedRow, character_of, follows, from_place, is_next_of_row, one_in, operations_in_row, puts, puts_one, stamp_in, row_with}
+use Rattle.rt_rows.specs.declared.single.TypedOp.{TypedOp}
+use Rattle.rt_rows.specs.Views.{operation_under}
+use Rattle.rt_rows.specs.Rows.{TypedRow, are_same_names, character_of, follows, last_of_row, from_place, is_next_of_row, one_in, operations_in_row, puts, puts_one, stamp_in, row_with}
 
 -- one more operation at the end
 
@@ -94,49 +97,67 @@ follows_refl start (suc n) body h = let e : suc n - 1 ≡ n = omega arith in rw 
 pub follows_count : (start : RowStart) (n : ℕ) (op : Operation) → follows start n op ≡ true → op.count ≡ start.count + n
 follows_count start n op t = grind (arith, nat_tests, t)
 
-puts_true : (last : Stamp) (body : Body) → puts_one last body ≡ true → body ≡ Insert last [] (character_of body ∷ [])
-puts_true last (Insert after [] []) h = absurd (cc h)
-puts_true last (Insert after [] (c ∷ [])) h = let p : after ≡ last = same_from_true after last h in λ i. Insert (p i) [] (c ∷ [])
-puts_true last (Insert after [] (c ∷ (d ∷ text))) h = absurd (cc h)
-puts_true last (Insert after (name ∷ names) text) h = absurd (cc h)
-puts_true last (Delete spans) h = absurd (cc h)
-puts_true last (Tag on name spans) h = absurd (cc h)
+pub names_true : (a b : List Name) → are_same_names a b ≡ true → a ≡ b
+names_true a b h = (pointwise_decides bytes_decides a b).0 h
+
+names_refl : (a : List Name) → are_same_names a a ≡ true
+names_refl a = (pointwise_decides bytes_decides a a).1 refl
+
+puts_true : (last : Stamp) (tags : List Name) (body : Body) → puts_one last tags body ≡ true → body ≡ Insert last tags (character_of body ∷ [])
+puts_true last tags (Insert after names []) h = absurd (cc h)
+puts_true last tags (Insert after names (c ∷ [])) h =
+    let p : after ≡ last = same_from_true after last (grind (arith, h)) in
+    let q : names ≡ tags = names_true names tags (grind (arith, h)) in
+    λ i. Insert (p i) (q i) (c ∷ [])
+puts_true last tags (Insert after names (c ∷ (d ∷ text))) h = absurd (cc h)
+puts_true last tags (Delete spans) h = absurd (cc h)
+puts_true last tags (Tag on name spans) h = absurd (cc h)
 
 -- the test of the operation at a place that isn't the first
-abbrev test_at : RowStart → ℕ → Operation → Bool
-test_at start n op = follows start n op && puts_one (stamp_in start (n - 1)) op.body
+abbrev test_at : RowStart → List Name → ℕ → Operation → Bool
+test_at start tags n op = follows start n op && puts_one (stamp_in start (n - 1)) tags op.body
 
-next_true : (start : RowStart) (after : Stamp) (n : ℕ) (op : Operation) → 0 < n → test_at start n op ≡ true
-    → op ≡ one_in start n (puts start after n (character_of op.body))
-next_true start after zero op h t = absurd (omega arith)
-next_true start after (suc n) op h t =
+next_true : (start : RowStart) (after : Stamp) (tags : List Name) (n : ℕ) (op : Operation) → 0 < n → test_at start tags n op ≡ true
+    → op ≡ one_in start n (puts start after tags n (character_of op.body))
+next_true start after tags zero op h t = absurd (omega arith)
+next_true start after tags (suc n) op h t =
     let e : suc n - 1 ≡ n = omega arith in
     let f : follows start (suc n) op ≡ true = grind (arith, t) in
-    let r : puts_one (stamp_in start (suc n - 1)) op.body ≡ true = grind (arith, t) in
-    let p : puts_one (stamp_in start n) op.body ≡ true = rw e at r in
-    follows_true start (suc n) op h f ∙ ap (one_in start (suc n)) (puts_true (stamp_in start n) op.body p)
+    let r : puts_one (stamp_in start (suc n - 1)) tags op.body ≡ true = grind (arith, t) in
+    let p : puts_one (stamp_in start n) tags op.body ≡ true = rw e at r in
+    follows_true start (suc n) op h f ∙ ap (one_in start (suc n)) (puts_true (stamp_in start n) tags op.body p)
 
-next_refl : (start : RowStart) (after : Stamp) (n c : ℕ) → 0 < n → test_at start n (one_in start n (puts start after n c)) ≡ true
-next_refl start after zero c h = absurd (omega arith)
-next_refl start after (suc n) c h =
+next_refl : (start : RowStart) (after : Stamp) (tags : List Name) (n c : ℕ) → 0 < n → test_at start tags n (one_in start n (puts start after tags n c)) ≡ true
+next_refl start after tags zero c h = absurd (omega arith)
+next_refl start after tags (suc n) c h =
     let e : suc n - 1 ≡ n = omega arith in
-    let q : puts_one (stamp_in start n) (Insert (stamp_in start n) [] (c ∷ [])) ≡ true = same_refl (stamp_in start n) in
-    let f = follows_refl start (suc n) (puts start after (suc n) c) h in
+    let q : puts_one (stamp_in start n) tags (Insert (stamp_in start n) tags (c ∷ [])) ≡ true = rw (same_refl (stamp_in start n)) (names_refl tags) in
+    let f = follows_refl start (suc n) (puts start after tags (suc n) c) h in
     rw (f, e) q
 
 pub row_next : (row : TypedRow) (op : Operation) → 0 < length row.text → is_next_of_row row op ≡ true
     → operations_in_row (row_with row (character_of op.body)) ≡ operations_in_row row ++ op ∷ []
 row_next row op h t =
-    row_more row.start (puts row.start row.after) row.text (character_of op.body)
-    ∙ ap (λ x. operations_in_row row ++ x ∷ []) (sym (next_true row.start row.after (length row.text) op h t))
+    row_more row.start (puts row.start row.after row.tags) row.text (character_of op.body)
+    ∙ ap (λ x. operations_in_row row ++ x ∷ []) (sym (next_true row.start row.after row.tags (length row.text) op h t))
 
 pub row_exact : (row : TypedRow) (op : Operation) (c : ℕ) → 0 < length row.text → operations_in_row (row_with row c) ≡ operations_in_row row ++ op ∷ []
     → is_next_of_row row op ≡ true
 row_exact row op c h e =
     let n = length row.text in
-    let made = sym (row_more row.start (puts row.start row.after) row.text c) ∙ e in
-    let same : one_in row.start n (puts row.start row.after n c) ≡ op = last_same (operations_in_row row) (one_in row.start n (puts row.start row.after n c)) op made in
-    subst (λ x. test_at row.start n x ≡ true) same (next_refl row.start row.after n c h)
+    let made = sym (row_more row.start (puts row.start row.after row.tags) row.text c) ∙ e in
+    let same : one_in row.start n (puts row.start row.after row.tags n c) ≡ op =
+    last_same (operations_in_row row) (one_in row.start n (puts row.start row.after row.tags n c)) op made in
+    subst (λ x. test_at row.start row.tags n x ≡ true) same (next_refl row.start row.after row.tags n c h)
+
+-- the operation of a character under the row's tags is the next one
+pub typed_next : (row : TypedRow) (typed : TypedOp) → (follows row.start (length row.text) (operation_under row.tags typed) && is_same typed.after (last_of_row row)) ≡ true
+    → is_next_of_row row (operation_under row.tags typed) ≡ true
+typed_next row typed h =
+    let op = operation_under row.tags typed in
+    let f : follows row.start (length row.text) op ≡ true = grind (arith, h) in
+    let p : is_same typed.after (last_of_row row) ≡ true = grind (arith, h) in
+    rw (f, p) (names_refl row.tags)
 
 -- the count of the next operation
 pub next_count : (row : TypedRow) (op : Operation) → is_next_of_row row op ≡ true → op.count ≡ row.start.count + length row.text

@@ -1,2 +1,3 @@
 pub mod InRows
 pub mod Following
+pub mod Lists

@@ -1,10 +1,12 @@
 -- Rows: operations of a site with counts that follow one another, each of one count, and what they do. They are Inserts of one
--- character each after the one before, or Deletes of one span each.
-use Rattle.std.specs.Prelude.{ℕ, zero, suc, ◌+◌, ◌-◌, ◌==◌, ◌&&◌, Bool, true, false, List, [], ◌∷◌, ◌++◌, length}
+-- character each after the one before, under the same tags, or Deletes of one span each.
+use Rattle.std.specs.Prelude.{ℕ, zero, suc, ◌+◌, ◌-◌, ◌==◌, ◌&&◌, Bool, false, List, [], ◌∷◌, ◌++◌, length}
+use Rattle.std.specs.Cmp.Lexicographic.{pointwise}
+use Rattle.std.specs.Str.{bytes_eq}
 use Rattle.rt_stamps.specs.declared.stamp.Span.{Span}
 use Rattle.rt_stamps.specs.declared.stamp.Stamp.{Stamp}
 use Rattle.rt_stamps.specs.Stamps.{is_same}
-use Rattle.rt_ops.specs.Operations.{Body, Insert, Delete, Operation, stamp_of}
+use Rattle.rt_ops.specs.Operations.{Name, Body, Insert, Delete, Operation, stamp_of}
 use Rattle.rt_rows.specs.declared.row.RowStart.{RowStart}
 
 -- the stamp at a place of a row, and the previous count there: that of the operation before it
@@ -30,10 +32,11 @@ follows start many op = is_same (stamp_of op) (stamp_in start many) && (op.prev 
 
 -- CHARACTERS
 
--- characters that a site typed in a row, the first after an element
+-- characters that a site typed in a row, the first after an element, and the tags that each is under
 pub record TypedRow : Type 0 where
   pub start : RowStart
   pub after : Stamp
+  pub tags : List Name
   pub text : List ℕ
 
 -- the element after which the character at a place stands: the character before it
@@ -42,12 +45,12 @@ after_in start after zero = after
 after_in start after (suc place) = stamp_in start place
 
 -- what the operation of a character does
-abbrev pub puts : RowStart → Stamp → ℕ → ℕ → Body
-puts start after place c = Insert (after_in start after place) [] (c ∷ [])
+abbrev pub puts : RowStart → Stamp → List Name → ℕ → ℕ → Body
+puts start after tags place c = Insert (after_in start after place) tags (c ∷ [])
 
 -- what a row of characters stands for
 abbrev pub operations_in_row : TypedRow → List Operation
-operations_in_row row = from_place row.start (puts row.start row.after) 0 row.text
+operations_in_row row = from_place row.start (puts row.start row.after row.tags) 0 row.text
 
 -- a row with one more character
 abbrev pub row_with : TypedRow → ℕ → TypedRow
@@ -57,14 +60,18 @@ row_with row c = record row { text = row.text ++ c ∷ [] }
 abbrev pub last_of_row : TypedRow → Stamp
 last_of_row row = stamp_in row.start (length row.text - 1)
 
--- an Insert of one character after an element, without tags
-abbrev pub puts_one : Stamp → Body → Bool
-puts_one last (Insert after [] (c ∷ [])) = is_same after last
-puts_one last _ = false
+-- the same names, in the same order
+abbrev pub are_same_names : List Name → List Name → Bool
+are_same_names = pointwise bytes_eq
+
+-- an Insert of one character after an element, under these tags
+abbrev pub puts_one : Stamp → List Name → Body → Bool
+puts_one last names (Insert after tags (c ∷ [])) = is_same after last && are_same_names tags names
+puts_one last names _ = false
 
 -- the operation is the next one of the row
 abbrev pub is_next_of_row : TypedRow → Operation → Bool
-is_next_of_row row op = follows row.start (length row.text) op && puts_one (last_of_row row) op.body
+is_next_of_row row op = follows row.start (length row.text) op && puts_one (last_of_row row) row.tags op.body
 
 -- the first character of an Insert
 abbrev pub character_of : Body → ℕ

@@ -2,7 +2,10 @@
 #![tactic(auto)]
 
 mod deletes;
+mod kept;
 pub mod laws;
+mod listed;
+mod names;
 mod row;
 pub mod rows;
 pub mod single;

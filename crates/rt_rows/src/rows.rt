@@ -1,19 +1,22 @@
 // Operations in rows.
-ghost use Rattle.std.specs.Prelude.{◌≡◌, ◌+◌, ◌<◌, ◌^◌, ◌≤◌, ◌∷◌, [], IfNone, IfSome, length, vec_len, vec_capacity, IsOk, OnOk, IsOkUnless, true};
+ghost use Rattle.std.specs.Prelude.{◌≡◌, ◌+◌, ◌<◌, ◌≤◌, [], ℕ, List, length, IsOk, OnOk, IsOkUnless, true};
 ghost use Rattle.rt_stamps.specs.declared.fault.Fault.TheVariants.{NoMemory};
 ghost use Rattle.rt_stamps.specs.declared.limits.TheConstants.{GREATEST_COUNT};
-ghost use Rattle.rt_ops.specs.Operations.{Operation, stamp_of};
+ghost use Rattle.rt_ops.specs.Operations.{Insert, Name, Operation, stamp_of};
+ghost use Rattle.rt_rows.specs.Listed.{IsListed};
 ghost use Rattle.rt_rows.specs.Places.{HasPlace, IsOnlyNew, KeepsPlaces, StandsAt, op_at};
-ghost use Rattle.rt_rows.specs.Stored.{operations_stored, rows_in};
-ghost use Rattle.rt_ops.specs.Rules.{keeps_rules};
+ghost use Rattle.rt_ops.specs.Rules.{is_text, keeps_rules};
 ghost use Rattle.rt_ops.specs.Views.{body_in};
-ghost use Rattle.rt_rows.specs.Views.{MayStand, operation_in, operation_of, operation_typed};
+ghost use Rattle.rt_rows.specs.Views.{MayStand, list_of, operation_in, operation_of, operation_typed};
 
 use crate::TypedOp;
-use crate::single::{RowOp, row_op_in};
+use crate::kept::KeptRows;
+use crate::listed::ListedInsert;
+use crate::names::{TagList, TagLists};
+use crate::single::{RowOp, row_op_in, typed_in};
 use crate::stored::Stored;
-use rt_ops::{Op, OpView};
-use rt_stamps::{Fault, ROOT, Stamp};
+use rt_ops::{Edit, Op, OpView, Text};
+use rt_stamps::{Fault, Stamp};
 use std::alloc::Global;
 use std::marker::Model;
 
@@ -24,106 +27,53 @@ pub struct RowPlace {
     pub at: u32,
 }
 
-/// Operations, each of which keeps its place. Inserts of one character without tags by one site, each after the one before
-/// with the following count, are kept as one text: a row, of 4,096 at most, also where other sites' operations come
+/// Operations, each of which keeps its place. Inserts of one character by one site under the same tags, each after the one
+/// before with the following count, are kept as one text: a row, of 4,096 at most, also where other sites' operations come
 /// between. So are Deletes of one span each with counts that follow one another, as spans. A character takes 4 bytes there, a
 /// span 24, up to twice that where the row has grown by doubling. Any other operation is a row by itself. A row takes some
-/// 110 bytes.
+/// 110 bytes. Lists of tags that Inserts share are kept once.
 pub struct Rows {
-    alloc: Global,
-    rows: Vec<Stored>,
-    /// The row that was pushed to last.
-    latest: u32,
-    /// The last rows that were begun by characters or Deletes, so that what some sites do at a time lies in rows.
-    recent: [u32; RECENT],
-    /// Which of them the next one takes the place of.
-    oldest: usize,
+    kept: KeptRows,
+    lists: TagLists,
 }
-
-/// How many rows, beside the one that was pushed to last, may take a further operation in.
-const RECENT: usize = 8;
 
 // Written out, so that where a log is let go its operations are one step for the crates above.
 impl Drop for Rows {
     fn drop(self) {
-        let Rows {
-            alloc: _,
-            rows: _,
-            latest: _,
-            recent: _,
-            oldest: _,
-        } = self;
+        let Rows { kept: _, lists: _ } = self;
     }
 }
 
 impl Model for Rows {
-    ghost use Rattle.std.specs.Prelude.{◌-◌, ◌^◌, min, vec_len, vec_capacity};
+    ghost use Rattle.std.specs.Prelude.{length, min};
     ghost use Rattle.rt_rows.specs.Places.{RowsValue};
-    ghost use Rattle.rt_rows.specs.Stored.{rows_in};
+    ghost use Rattle.rt_rows.specs.Stored.{AreListed, rows_in};
 
     ghost Value = { RowsValue };
 
-    ghost view = { λ rows. record {
-      rows = rows_in rows.rows.items;
-      room = min (vec_capacity rows.rows - vec_len rows.rows) (2 ^ 32 - vec_len rows.rows);
+    ghost view = { λ all. record {
+      rows = rows_in all.lists.lists all.kept.kept;
+      room = min all.kept.room all.lists.room;
     } };
+
+    ghost invariant = { λ all. AreListed (length all.lists.lists) all.kept.kept };
 }
 
-/// The most rows, so that the place of one has 32 bits.
-const MOST_ROWS: usize = 1 << 32;
-
-/// Takes an operation into a row, where it goes on from that, with room, and tells its place there.
-#[inline(always)]
-fn take_at(rows: &mut Vec<Stored>, row: u32, one: &RowOp) -> Option<RowPlace>
-    requires { MayStand (operation_of one.now) }
-    ensures there { IfSome result (λ place. StandsAt (rows_in rows.new.items) (operation_of one.now) place) }
-    ensures one { IfSome result (λ place. IsOnlyNew (rows_in rows.old.items) (rows_in rows.new.items) place) }
-    ensures kept { IfSome result (λ place. KeepsPlaces (rows_in rows.old.items) (rows_in rows.new.items)) }
-    ensures same { IfNone result (rows.new.items ≡ rows.old.items) }
-    ensures len { vec_len rows.new ≡ vec_len rows.old }
-    ensures capacity { vec_capacity rows.new ≡ vec_capacity rows.old }
-{
-    let index = row as usize;
-    if index >= rows.len() {
-        return None;
+/// Whether an operation lists tags.
+fn lists_tags(op: &Op) -> bool {
+    match op.edit() {
+        Edit::Insert {
+            after: _,
+            tags,
+            text: _,
+        } => !tags.is_empty(),
+        Edit::Delete { spans: _ } => false,
+        Edit::Tag {
+            on: _,
+            name: _,
+            spans: _,
+        } => false,
     }
-    match rows[index].take(one) {
-        Some(at) => Some(RowPlace { row, at }),
-        None => None,
-    }
-}
-
-/// Takes an operation into the first of some rows that it goes on from, with room, and tells its place there.
-fn take_any(rows: &mut Vec<Stored>, some: &[u32], one: &RowOp) -> Option<RowPlace>
-    requires { MayStand (operation_of one.now) }
-    ensures there { IfSome result (λ place. StandsAt (rows_in rows.new.items) (operation_of one.now) place) }
-    ensures one { IfSome result (λ place. IsOnlyNew (rows_in rows.old.items) (rows_in rows.new.items) place) }
-    ensures kept { IfSome result (λ place. KeepsPlaces (rows_in rows.old.items) (rows_in rows.new.items)) }
-    ensures same { IfNone result (rows.new.items ≡ rows.old.items) }
-    ensures len { vec_len rows.new ≡ vec_len rows.old }
-    ensures capacity { vec_capacity rows.new ≡ vec_capacity rows.old }
-{
-    for row in some {
-        if let Some(place) = take_at(rows, *row, one) {
-            return Some(place);
-        }
-    }
-    None
-}
-
-/// Begins a row with an operation, where there is room.
-fn begin(rows: &mut Vec<Stored>, stored: Stored) -> RowPlace
-    requires room { vec_len rows.old < vec_capacity rows.old }
-    requires few { vec_len rows.old < 2 ^ 32 }
-    ensures there { (op : Operation) → operations_stored stored ≡ op ∷ [] → StandsAt (rows_in rows.new.items) op result }
-    ensures one { (op : Operation) → operations_stored stored ≡ op ∷ [] → IsOnlyNew (rows_in rows.old.items) (rows_in rows.new.items) result }
-    ensures kept { (op : Operation) → operations_stored stored ≡ op ∷ [] → KeepsPlaces (rows_in rows.old.items) (rows_in rows.new.items) }
-    ensures len { vec_len rows.new ≡ vec_len rows.old + 1 }
-    ensures capacity { vec_capacity rows.new ≡ vec_capacity rows.old }
-{
-    let row = rows.len() as u32;
-    rows.push_reserved(stored);
-    RowPlace { row, at: 0 }
 }
 
 impl Rows {
@@ -132,11 +82,8 @@ impl Rows {
         ensures { result.rows ≡ [] }
     {
         Rows {
-            alloc,
-            rows: Vec::new(alloc),
-            latest: 0,
-            recent: [0; RECENT],
-            oldest: 0,
+            kept: KeptRows::new(alloc),
+            lists: TagLists::new(alloc),
         }
     }
 
@@ -144,11 +91,12 @@ impl Rows {
     pub fn count(&self) -> usize
         ensures { result ≡ length self.now.rows }
     {
-        self.rows.len()
+        self.kept.count()
     }
 
     /// Makes room for `more` calls of `push` or `push_typed`, which then take no memory, and for a further operation of the
-    /// row that was pushed to last. `NoMemory` where a growth was refused, or there would be more than 2^32 rows; the operations stay.
+    /// row that was pushed to last. `NoMemory` where a growth was refused, or there would be more than 2^32 rows or lists of tags;
+    /// the operations stay.
     pub fn reserve(&mut self, more: usize) -> Result<(), Fault>
         ensures same { self.new.rows ≡ self.old.rows }
         ensures ok { OnOk result (more ≤ self.new.room) }
@@ -156,17 +104,8 @@ impl Rows {
         ensures fault { IsOkUnless result NoMemory }
         ensures there { more ≤ self.old.room → IsOk result }
     {
-        let len = self.rows.len();
-        if more > MOST_ROWS.saturating_sub(len) {
-            return Err(Fault::NoMemory);
-        }
-        self.rows.reserve(more)?;
-        let latest = self.latest as usize;
-        if latest < len {
-            // Where this is refused, the next operation begins a row.
-            let _ = self.rows[latest].make_room();
-        }
-        Ok(())
+        self.kept.reserve(more)?;
+        self.lists.reserve(more)
     }
 
     /// The operation at a place, seen where it is kept.
@@ -175,71 +114,89 @@ impl Rows {
         ensures is { op_at self.now.rows place ≡ operation_in result }
         ensures rules { keeps_rules (body_in result.edit) ≡ true }
     {
-        self.rows[place.row as usize].view(place.at as usize)
+        self.kept.at(place.row).view(&self.lists, place.at as usize)
     }
 
     /// The stamp of the operation at a place, `ROOT` where none stands there.
     pub fn stamp_at(&self, place: RowPlace) -> Stamp
         ensures { result ≡ stamp_of (op_at self.now.rows place) }
     {
-        match self.rows.get(place.row as usize) {
-            Some(row) => row.stamp_at(place.at as usize),
-            None => ROOT,
-        }
+        self.kept.stamp_at(place)
     }
 
-    /// Takes an operation into the row that was pushed to last, or else into a recent row, where it goes on from that, with
-    /// room.
+    /// Puts in an operation without tags that may lie in a row, where there is room, and tells its place; all others keep theirs.
     #[inline(always)]
-    fn join(&mut self, one: &RowOp) -> Option<RowPlace>
-        requires { MayStand (operation_of one.now) }
-        ensures there { IfSome result (λ place. StandsAt self.new.rows (operation_of one.now) place) }
-        ensures one { IfSome result (λ place. IsOnlyNew self.old.rows self.new.rows place) }
-        ensures kept { IfSome result (λ place. KeepsPlaces self.old.rows self.new.rows) }
-        ensures same { IfNone result (self.new.rows ≡ self.old.rows) }
-        ensures room { self.new.room ≡ self.old.room }
-        ensures rows { length self.new.rows ≡ length self.old.rows }
-    {
-        if let Some(place) = take_at(&mut self.rows, self.latest, one) {
-            return Some(place);
-        }
-        take_any(&mut self.rows, &self.recent, one)
-    }
-
-    /// Begins a row with an operation that others may join there, where there is room.
-    fn begin_row(&mut self, one: &RowOp) -> RowPlace
-        requires stands { MayStand (operation_of one.now) }
+    fn push_row(&mut self, one: &RowOp) -> RowPlace
+        requires stands { MayStand (operation_of [] one.now) }
+        requires alone { (many : ℕ) → IsListed many (list_of one.now) }
         requires room { 0 < self.old.room }
-        ensures there { StandsAt self.new.rows (operation_of one.now) result }
+        ensures there { (op : Operation) → ((lists : List (List Name)) → operation_of lists one.now ≡ op) → StandsAt self.new.rows op result }
         ensures one { IsOnlyNew self.old.rows self.new.rows result }
         ensures kept { KeepsPlaces self.old.rows self.new.rows }
         ensures room { self.old.room ≤ self.new.room + 1 }
         ensures rows { length self.new.rows ≤ length self.old.rows + 1 }
     {
-        let place = begin(&mut self.rows, Stored::of(self.alloc, one));
-        let slot = self.oldest % RECENT;
-        self.recent[slot] = place.row;
-        self.oldest = (slot + 1) % RECENT;
-        place
+        self.kept.push_one(one)
     }
 
-    /// Puts in an operation that may lie in a row, where there is room, and tells its place; all others keep theirs.
-    #[inline(always)]
-    fn push_one(&mut self, one: &RowOp) -> RowPlace
-        requires stands { MayStand (operation_of one.now) }
+    /// Puts an operation in as a row by itself, where there is room, and tells its place; all others keep theirs.
+    fn push_single(&mut self, op: Op) -> RowPlace
         requires room { 0 < self.old.room }
-        ensures there { StandsAt self.new.rows (operation_of one.now) result }
+        ensures there { StandsAt self.new.rows op result }
         ensures one { IsOnlyNew self.old.rows self.new.rows result }
         ensures kept { KeepsPlaces self.old.rows self.new.rows }
         ensures room { self.old.room ≤ self.new.room + 1 }
         ensures rows { length self.new.rows ≤ length self.old.rows + 1 }
     {
-        let place = match self.join(one) {
-            Some(place) => place,
-            None => self.begin_row(one),
-        };
-        self.latest = place.row;
-        place
+        self.kept.push_alone(Stored::Single(op))
+    }
+
+    /// Puts in an Insert of these parts, where there is room, and tells its place; all others keep theirs.
+    fn push_listed(
+        &mut self,
+        stamp: Stamp,
+        prev: u64,
+        after: Stamp,
+        tags: TagList,
+        text: Text,
+    ) -> RowPlace
+        requires room { 0 < self.old.room }
+        requires rules { is_text text ≡ true }
+        ensures there { StandsAt self.new.rows (record { count = stamp.count; site = stamp.site; prev = prev; body = Insert after tags text }) result }
+        ensures one { IsOnlyNew self.old.rows self.new.rows result }
+        ensures kept { KeepsPlaces self.old.rows self.new.rows }
+        ensures room { self.old.room ≤ self.new.room + 1 }
+        ensures rows { length self.new.rows ≤ length self.old.rows + 1 }
+    {
+        let list = self.lists.keep(tags);
+        match typed_in(stamp, prev, after, text.characters()) {
+            Some(typed) => {
+                drop(text);
+                self.kept.push_one(&RowOp::Typed(typed, Some(list)))
+            }
+            None => {
+                let one = ListedInsert::of(stamp, prev, after, list, text);
+                self.kept.push_alone(Stored::Listed(one))
+            }
+        }
+    }
+
+    /// Puts in an operation that may list tags, where there is room, and tells its place; all others keep theirs.
+    fn push_tagged(&mut self, op: Op) -> RowPlace
+        requires room { 0 < self.old.room }
+        ensures there { StandsAt self.new.rows op result }
+        ensures one { IsOnlyNew self.old.rows self.new.rows result }
+        ensures kept { KeepsPlaces self.old.rows self.new.rows }
+        ensures room { self.old.room ≤ self.new.room + 1 }
+        ensures rows { length self.new.rows ≤ length self.old.rows + 1 }
+    {
+        let (stamp, prev) = (op.stamp(), op.prev());
+        match op.into_edit() {
+            Edit::Insert { after, tags, text } => {
+                self.push_listed(stamp, prev, after, TagList::of(tags), text)
+            }
+            edit => self.push_single(Op::of(stamp, prev, edit)),
+        }
     }
 
     /// Puts a typed operation in, where there is room, and tells its place; all others keep theirs. Takes no memory: where it
@@ -253,11 +210,11 @@ impl Rows {
         ensures room { self.old.room ≤ self.new.room + 1 }
         ensures rows { length self.new.rows ≤ length self.old.rows + 1 }
     {
-        self.push_one(&RowOp::Typed(typed))
+        self.push_row(&RowOp::Typed(typed, None))
     }
 
     /// Puts an operation in, where there is room, and tells its place; all others keep theirs. Takes no memory: a typed one
-    /// comes in as by `push_typed`, and so does a Delete of one span; any other begins a row.
+    /// comes in as by `push_typed`, and so do one under tags and a Delete of one span; any other begins a row.
     pub fn push(&mut self, op: Op) -> RowPlace
         requires room { 0 < self.old.room }
         ensures there { StandsAt self.new.rows op result }
@@ -267,10 +224,11 @@ impl Rows {
         ensures rows { length self.new.rows ≤ length self.old.rows + 1 }
     {
         if let Some(one) = row_op_in(&op) {
-            return self.push_one(&one);
+            return self.push_row(&one);
         }
-        let place = begin(&mut self.rows, Stored::Single(op));
-        self.latest = place.row;
-        place
+        if lists_tags(&op) {
+            return self.push_tagged(op);
+        }
+        self.push_single(op)
     }
 }

@@ -1,5 +1,6 @@
 pub mod ChangeLines
 pub mod Counted
+pub mod CutLines
 pub mod EndsLaws
 pub mod FilesStay
 pub mod Indexed

@@ -1,6 +1,6 @@
 -- Lines of a script, which is a list of bytes.
-use Rattle.std.specs.Prelude.{ℕ, ◌==◌, ◌&&◌, ◌||◌, not, nat_le, List, [], ◌∷◌, ◌++◌, length, map, filter, Bool, true, if◌then◌else◌}
-use Rattle.std.specs.List.{list_all}
+use Rattle.std.specs.Prelude.{◌≡◌, ℕ, ◌==◌, ◌&&◌, ◌||◌, not, nat_le, List, [], ◌∷◌, ◌++◌, length, map, filter, Bool, true, if◌then◌else◌}
+use Rattle.std.specs.List.{AllByRecursion, flat_map, list_all}
 use Rattle.std.specs.Str.{is_utf8}
 use Rattle.rt_stamps.specs.declared.limits.TheConstants.{MOST_LINE_BYTES}
 use Rattle.rt_words.specs.Spelling.{is_blank}
@@ -14,6 +14,16 @@ before_all c (line ∷ lines) rest = ((c ∷ line) ∷ lines, rest)
 abbrev pub split_lines : List ℕ → List (List ℕ) × List ℕ
 split_lines [] = ([], [])
 split_lines (c ∷ bytes) = if c == 10 then ([] ∷ (split_lines bytes).0, (split_lines bytes).1) else before_all c (split_lines bytes).0 (split_lines bytes).1
+
+-- no byte is a newline
+abbrev pub is_one_line : List ℕ → Bool
+is_one_line line = list_all (λ c. not (c == 10)) line
+
+-- These lines, each with its newline, and then the rest are the bytes, and no newline stands in a line or in the rest.
+pub record AreCutLines (bytes : List ℕ) (lines : List (List ℕ)) (rest : List ℕ) : Type 0 where
+  pub whole : flat_map (λ line. line ++ 10 ∷ []) lines ++ rest ≡ bytes
+  pub lines_end : AllByRecursion (λ line. is_one_line line ≡ true) lines
+  pub rest_open : is_one_line rest ≡ true
 
 -- a line without a carriage return at its end
 abbrev pub without_return : List ℕ → List ℕ

@@ -8,9 +8,9 @@ use Rattle.rt_stamps.specs.declared.limits.TheConstants.{MOST_BYTES, MOST_CELLS}
 use Rattle.rt_stamps.specs.Streams.{FILE_BOUNDS, Stream}
 use Rattle.rt_ops.specs.File.{spelling}
 use Rattle.rt_script.specs.Run.{Ends, Point, point}
-use Rattle.rt_script.specs.SiteValue.{SiteValue, new_site}
+use Rattle.rt_peers.specs.SiteValue.{SiteValue, new_site}
 use Rattle.rt_script.specs.Site.{NamedFile, Session, SiteGives}
-use Rattle.rt_script.specs.SiteStep.{SiteReceives}
+use Rattle.rt_peers.specs.SiteStep.{SiteReceives}
 use Rattle.rt_holding.specs.declared.receiving.Received.{Received}
 use Rattle.rt_script.specs.declared.site_run.ScriptRun.{ScriptRun}
 

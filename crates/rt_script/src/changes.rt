@@ -114,7 +114,7 @@ fn rendered<A: Ledger, B: Ledger>(
 }
 
 /// The lines of what an operation changed, in memory of their own. Want of memory.
-pub fn change_bytes(alloc: Global, change: &ToldChange) -> Result<Vec<u8>, Fault>
+pub(crate) fn change_bytes(alloc: Global, change: &ToldChange) -> Result<Vec<u8>, Fault>
     ensures ok { IfOk result (λ lines. lines.items ≡ change_lines change.now) }
     ensures err { IsOkUnless result NoMemory }
 {

@@ -1,9 +1,10 @@
 // Laws of the definitions, and of sites, each the contract of a function that changes nothing.
-ghost use Rattle.std.specs.Prelude.{◌≡◌, ◌∷◌, List, codes};
+ghost use Rattle.std.specs.Prelude.{◌≡◌, ◌∷◌, ℕ, List, codes};
 ghost use Rattle.rt_stamps.specs.Words.{Word};
 ghost use Rattle.rt_words.specs.Spelling.{Spells};
 ghost use Rattle.rt_script.specs.declared.answer.Answer.TheVariants.{Replied};
 ghost use Rattle.rt_script.specs.Headline.{Headline};
+ghost use Rattle.rt_script.specs.Lines.{AreCutLines, split_lines};
 ghost use Rattle.rt_script.specs.Lived.{RunsLive, ScriptsLiveOn};
 ghost use Rattle.rt_script.specs.Output.{LinesGoOneWay, RunsHaveOneOutput};
 ghost use Rattle.rt_script.specs.Replies.{text_of_answer};
@@ -22,6 +23,12 @@ use rt_rga::laws::histories;
 pub fn reply_is_read_back()
     ensures spells { (words : List Word) → Spells (text_of_answer (Replied words)) (codes "=" ∷ words) }
     ensures nothing_else { (words others : List Word) → Spells (text_of_answer (Replied words)) others → others ≡ codes "=" ∷ words }
+{}
+
+/// Each newline of a script ends a line: the lines, each with its newline, and what follows the last one are the script's
+/// bytes, and no newline stands in a line or in what follows.
+pub fn lines_are_cut()
+    ensures { (bytes : List ℕ) → AreCutLines bytes (split_lines bytes).0 (split_lines bytes).1 }
 {}
 
 /// The reads of `run` suffice for its bytes, since each read but the last gives one: it ends with `ReadFault` where a read

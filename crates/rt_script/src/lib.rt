@@ -2,7 +2,7 @@
 #![tactic(auto)]
 
 pub mod answer;
-pub mod changes;
+mod changes;
 pub mod commands;
 pub mod engine;
 pub mod examples;
@@ -12,10 +12,9 @@ pub mod reply;
 pub mod scripts;
 pub mod site_lines;
 pub mod site_run;
-pub mod telling;
+mod telling;
 
 pub use answer::Answer;
-pub use changes::change_bytes;
 pub use commands::Commands;
 pub use engine::{Ended, answer_bytes, answer_line};
 pub use line_site::LineSite;
@@ -26,4 +25,3 @@ pub use rt_words::{Spare, words};
 pub use scripts::{run, run_bounded};
 pub use site_lines::Session;
 pub use site_run::{ScriptRun, begun, run_site};
-pub use telling::words_tell;

@@ -144,7 +144,7 @@ impl<'a> Session<'a> {
     }
 
     /// The site.
-    pub fn into_site(self) -> SiteState
+    pub(crate) fn into_site(self) -> SiteState
         ensures { result ≡ self.entry.site }
     {
         let Session { site, .. } = self;

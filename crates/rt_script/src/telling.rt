@@ -34,7 +34,7 @@ fn untold(alloc: Global, reply: Result<Reply, Fault>) -> ToldAnswer
 
 /// What is replied to the words of a line by a site that has no files, and what they change in the visible text, as
 /// `SiteState::command_telling` tells it.
-pub fn words_tell(alloc: Global, site: &mut SiteState, words: &[String]) -> ToldAnswer
+pub(crate) fn words_tell(alloc: Global, site: &mut SiteState, words: &[String]) -> ToldAnswer
     ensures gives { WordsGive [] (as_words words.now) site.old (as_answer result.reply) site.new }
     ensures tells { TellsChanges site.old site.new (told_items result.changes) }
 {

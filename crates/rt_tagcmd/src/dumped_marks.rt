@@ -3,9 +3,10 @@ ghost use Rattle.std.specs.Prelude.{◌≡◌, ◌++◌, IsOkUnless, OnOk};
 ghost use Rattle.rt_tagcmd.specs.Dumping.{marks_standing};
 ghost use Rattle.rt_tagcmd.specs.Stretches.{within};
 
+use crate::Key;
+use crate::mark_list::marks_between;
 use crate::placed::Placed;
 use crate::stretch::DumpStretch;
-use crate::{Key, marks_between};
 use rt_stamps::Fault;
 use rt_store::TextStore;
 use rt_text::ViewRef;

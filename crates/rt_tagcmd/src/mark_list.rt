@@ -135,7 +135,7 @@ fn sorted<'a, S: TextStore>(
 /// The marks of a widget that stand at a place of what it shows, counted from 0, or behind it, and before another, in the order of place, gravity and
 /// name: a few binary searches for each where the widget shows all of the text; else all marks are looked at, and those
 /// of the stretch sorted, as those outside of what is shown stand in another order then. `NoMemory` is its only fault.
-pub fn marks_between<'a, S: TextStore>(
+pub(crate) fn marks_between<'a, S: TextStore>(
     alloc: Global,
     view: &ViewRef<'a, S>,
     from: usize,

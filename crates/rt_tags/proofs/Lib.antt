@@ -10,12 +10,14 @@ pub mod Greatest
 pub mod Keeping
 pub mod Listing
 pub mod ManyCounts
+pub mod ManyWrites
 pub mod Marked
 pub mod Members
 pub mod Merging
 pub mod NodeKeeping
 pub mod OneId
 pub mod Parts
+pub mod PlacedLast
 pub mod Places
 pub mod Putting
 pub mod Retelling
@@ -28,3 +30,5 @@ pub mod Tables
 pub mod Together
 pub mod Trees
 pub mod Walking
+pub mod WriteParts
+pub mod WritesSeen

@@ -11,22 +11,22 @@ use Rattle.std.proofs.lemmas.List.Sums.{sum_by-append, sum_by-cons, sum_by-set, 
 use Rattle.rt_tags.specs.declared.toggles.TagCount.{TagCount}
 use Rattle.rt_tags.specs.ManyCounts.{AreTagsOnce, ArePlaced, lessened}
 use Rattle.rt_tags.specs.Toggles.{AreFrom, count_in}
-use Rattle.rt_tags.proofs.Counts.{more_at, next, next_count, none_below, place, set_at, share, share_own, stands, tells, weaken}
+use Rattle.rt_tags.proofs.Counts.{more_at, next, next_count, none_below, place, set_at, share, share_other, share_own, stands, tells, weaken}
 use Rattle.rt_tags.proofs.Places.{split}
 
 -- EACH TAG ONCE
 
-abbrev own : ℕ → TagCount → ℕ
+abbrev pub own : ℕ → TagCount → ℕ
 own tag c = cond (c.tag == tag) 1 0
 
-abbrev empty : TagCount → ℕ
+abbrev pub empty : TagCount → ℕ
 empty c = cond (c.count == 0) 1 0
 
 -- how often a tag stands among counts, and how many of them are none
-abbrev times : ℕ → List TagCount → ℕ
+abbrev pub times : ℕ → List TagCount → ℕ
 times tag cs = count_by (λ c. c.tag == tag) cs
 
-abbrev empties : List TagCount → ℕ
+abbrev pub empties : List TagCount → ℕ
 empties cs = count_by (λ c. c.count == 0) cs
 
 times_next : (tag : ℕ) (c : TagCount) (cs : List TagCount) → times tag (c ∷ cs) ≡ own tag c + times tag cs
@@ -35,7 +35,7 @@ times_next tag c cs = sum_by-cons (own tag) c cs
 empties_next : (c : TagCount) (cs : List TagCount) → empties (c ∷ cs) ≡ empty c + empties cs
 empties_next c cs = sum_by-cons empty c cs
 
-own_is : (tag : ℕ) (c : TagCount) → c.tag ≡ tag → own tag c ≡ 1
+pub own_is : (tag : ℕ) (c : TagCount) → c.tag ≡ tag → own tag c ≡ 1
 own_is tag c e = ap {A = Bool} {B = ℕ} (λ b. cond b 1 0) (eq-eqb c.tag tag e)
 
 own_not : (tag : ℕ) (c : TagCount) → c.tag ≢ tag → own tag c ≡ 0
@@ -44,7 +44,7 @@ own_not tag c ne = ap {A = Bool} {B = ℕ} (λ b. cond b 1 0) (split (c.tag == t
 empty_not : (c : TagCount) → 0 < c.count → empty c ≡ 0
 empty_not c pos = ap {A = Bool} {B = ℕ} (λ b. cond b 1 0) (split (c.count == 0) (λ t. let z : c.count ≡ 0 = (Decides-eqb c.count 0).0 t in absurd (omega (arith, z, pos))) (λ f. f))
 
-full : (c : TagCount) → empty c ≡ 0 → 0 < c.count
+pub full : (c : TagCount) → empty c ≡ 0 → 0 < c.count
 full c e =
     split (nat_lt 0 c.count) (λ t. ltb-true 0 c.count t)
     (λ f. let le = ltb-false 0 c.count f in
@@ -96,6 +96,16 @@ absent tag (c ∷ cs) z e =
     let o : own tag c ≡ 0 = own_not tag c ne in
     let r : times tag cs ≡ 0 = absent tag cs (omega (arith, sum)) (omega (arith, parts)) in
     times_next tag c cs ∙ omega (arith, o, r)
+
+-- and one that doesn't stand there has no count
+pub not_there : (tag : ℕ) (cs : List TagCount) → times tag cs ≡ 0 → count_in tag cs ≡ 0
+not_there tag [] z = refl
+not_there tag (c ∷ cs) z =
+    let sum : own tag c + times tag cs ≡ 0 = sym (times_next tag c cs) ∙ z in
+    let ne : c.tag ≢ tag = λ s. let o = own_is tag c s in omega (arith, o, sum) in
+    let off : share tag c ≡ 0 = share_other tag c ne in
+    let r : count_in tag cs ≡ 0 = not_there tag cs (omega (arith, sum)) in
+    next tag c cs ∙ omega (arith, off, r)
 
 pushed : (c : TagCount) (cs : List TagCount) → AreTagsOnce cs → count_in c.tag cs ≡ 0 → 0 < c.count → AreTagsOnce (cs ++ c ∷ [])
 pushed c cs h z pos = record {

@@ -47,14 +47,14 @@ alone_heap nodes tag setting w = record {
 
 module _ (old : List Node) (id : ℕ) (n : Node) (was : AreShared old) (at : slice_get old id ≡ Some n) where
   -- a node without a setting is the first
-  unset : n.setting ≡ None → id ≡ 0
+  pub unset : n.setting ≡ None → id ≡ 0
   unset e = is_first id at
     where
       is_first : (i : ℕ) → slice_get old i ≡ Some n → i ≡ 0
       is_first zero h = refl
       is_first (suc i) h = absurd (clash (is_some n.setting) (was.filled (suc i) n (omega arith) h) (ap (λ (v : Option Setting). is_some v) e))
 
-  is_set : (m : Setting) → n.setting ≡ Some m → 0 < id
+  pub is_set : (m : Setting) → n.setting ≡ Some m → 0 < id
   is_set m e = not_first old id n was at (ap (λ (v : Option Setting). is_some v) e)
 
   pub heap_there : (m : Setting) → n.setting ≡ Some m → IsHeap old n

@@ -187,7 +187,7 @@ listed_place name (x ∷ names) h = split (bytes_eq name x)
     (λ t. (0, (omega arith), sym (same_name name x t)))
     (λ f. let r = listed_place name names (sym (ap (λ b. b || is_listed name names) f) ∙ h) in (suc r.0, (let w = r.1 in omega (arith, w)), r.2))
 
-newer_if : (names : List (List ℕ)) (e : TagEntry) (o : Option Setting) → write_if (get_or names e.tag []) (cond (is_setting_kept o e.writer) o (Some (record { writer = e.writer; on = e.on }))) ≡ Some (newer (write_if (get_or names e.tag []) o) (write_seen names e))
+pub newer_if : (names : List (List ℕ)) (e : TagEntry) (o : Option Setting) → write_if (get_or names e.tag []) (cond (is_setting_kept o e.writer) o (Some (record { writer = e.writer; on = e.on }))) ≡ Some (newer (write_if (get_or names e.tag []) o) (write_seen names e))
 newer_if names e None = refl
 newer_if names e (Some m) = by (is_before m.writer e.writer)
   where

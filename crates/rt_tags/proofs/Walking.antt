@@ -12,7 +12,7 @@ use Rattle.rt_tags.specs.declared.nodes.Node.{Node}
 use Rattle.rt_tags.specs.declared.states.TagEntry.{TagEntry}
 use Rattle.rt_tags.specs.SharedStates.{AreShared, IsThere, Tree, Empty, Branch, at_id, chosen, empty_node, entries_of, entry_if, half, if_so, is_off, puts_on, scaled, setting_of}
 use Rattle.rt_tags.proofs.OneId.{IsFull, full_below, some_same}
-use Rattle.rt_tags.proofs.Settings.{by_parity, in_even, in_odd, is_same, not_same, part_even, part_odd, setting_below, setting_top}
+use Rattle.rt_tags.proofs.Settings.{by_parity, in_even, in_odd, is_same, part_even, part_odd, setting_below, setting_top}
 use Rattle.rt_tags.proofs.Places.{clash, split}
 use Rattle.rt_tags.proofs.Trees.{empty_has, even_given, first_is, first_node, node_settings, node_tree, odd_given}
 
@@ -150,10 +150,6 @@ pub shared_none : (nodes : List Node) → AreShared nodes → (here other scale 
 shared_none nodes are here other scale offset w part tag =
     ap (times tag) (nothing_chosen (at_id nodes here) (full_below (suc here) here nodes are (omega arith) w) (λ t. t * scale + offset) (is_off (at_id nodes other))
     (λ t is on. ap (λ (v : Option Setting). not (puts_on v)) (part t is) ∙ ap (λ (b : Bool). not b) on))
-
-pub apart_none : (b : Bool) (tag t bound : ℕ) → tag < bound → bound ≤ t → times t (if_so b tag) ≡ 0
-apart_none true tag t bound w v = times_alone tag t ∙ ap {A = Bool} {B = ℕ} (λ d. cond d 1 0) (not_same tag t (λ e. absurd (omega arith)))
-apart_none false tag t bound w v = refl
 
 pub empty_none : (nodes : List Node) (here other scale offset : ℕ) → here ≡ 0 → (tag : ℕ) → times tag (chosen (λ t. t * scale + offset) (is_off (at_id nodes other)) (at_id nodes here)) ≡ 0
 empty_none nodes here other scale offset z tag = ap (λ (v : Tree). times tag (chosen (λ t. t * scale + offset) (is_off (at_id nodes other)) v)) (ap (at_id nodes) z ∙ first_is nodes)

@@ -7,3 +7,4 @@ pub mod Borders
 pub mod SharedStates
 pub mod Kept
 pub mod ManyCounts
+pub mod ManyWrites

@@ -5,6 +5,7 @@
 #![tactic(auto)]
 
 mod borders;
+mod building;
 mod forgetting;
 pub mod laws;
 mod many;

@@ -4,13 +4,13 @@ ghost use Rattle.rt_tags.specs.ManyCounts.{ArePlaced, lessened};
 ghost use Rattle.rt_tags.specs.Toggles.{AreFrom, count_in, more_tags};
 
 use crate::states::TagId;
-use crate::toggles::{TagCount, spot_of};
+use crate::toggles::{TagCount, insert_count, spot_of};
 
-/// Up to so many tags are cheaper one by one, though each moves all that stand behind its place.
+/// Up to so many tags are cheaper one by one, though each moves all counts behind its place.
 pub(crate) const FEW: usize = 16;
 
 // A tag has so many toggles more: at its place among the first counts, which are in order, if it stands there, else behind all.
-fn put(counts: &mut Vec<TagCount>, ordered: usize, tag: TagId, more: u32)
+pub(crate) fn put(counts: &mut Vec<TagCount>, ordered: usize, tag: TagId, more: u32)
     requires placed { ArePlaced ordered counts.old.items }
     requires some { 0 < more }
     requires few { count_in tag counts.old.items + more < 2 ^ 32 }
@@ -33,15 +33,44 @@ fn put(counts: &mut Vec<TagCount>, ordered: usize, tag: TagId, more: u32)
     }
 }
 
-// Brings counts in order, of which the first are in order already.
-fn sort(counts: &mut Vec<TagCount>, ordered: usize)
+// The last of the counts goes to its place among the first, which are in order.
+fn place_last(counts: &mut Vec<TagCount>, ordered: usize)
+    requires placed { ArePlaced ordered counts.old.items }
+    requires more { ordered < vec_len counts.old }
+    ensures placed { ArePlaced (ordered + 1) counts.new.items }
+    ensures counts { (tag : ℕ) → count_in tag counts.new.items ≡ count_in tag counts.old.items }
+    ensures len { vec_len counts.new ≡ vec_len counts.old }
+    ensures capacity { vec_capacity counts.new ≡ vec_capacity counts.old }
+{
+    let last = counts[counts.len() - 1];
+    counts.truncate(counts.len() - 1);
+    let place = spot_of(&counts[..ordered], last.tag).place;
+    insert_count(counts, place, last);
+}
+
+// Brings counts in order, of which the first are in order already, one by one.
+fn place_each(counts: &mut Vec<TagCount>, ordered: usize)
     requires { ArePlaced ordered counts.old.items }
     ensures order { AreFrom 0 counts.new.items }
     ensures counts { (tag : ℕ) → count_in tag counts.new.items ≡ count_in tag counts.old.items }
     ensures len { vec_len counts.new ≡ vec_len counts.old }
     ensures capacity { vec_capacity counts.new ≡ vec_capacity counts.old }
 {
-    if ordered == counts.len() {
+    for placed in ordered..counts.len() {
+        place_last(counts, placed);
+    }
+}
+
+/// Brings counts in order, of which the first are in order already: the others one by one where they are few.
+pub(crate) fn sort(counts: &mut Vec<TagCount>, ordered: usize)
+    requires { ArePlaced ordered counts.old.items }
+    ensures order { AreFrom 0 counts.new.items }
+    ensures counts { (tag : ℕ) → count_in tag counts.new.items ≡ count_in tag counts.old.items }
+    ensures len { vec_len counts.new ≡ vec_len counts.old }
+    ensures capacity { vec_capacity counts.new ≡ vec_capacity counts.old }
+{
+    if counts.len() - ordered <= FEW {
+        place_each(counts, ordered);
         return;
     }
     counts.sort_unstable_by_key(|c| c.tag.place());

@@ -220,20 +220,21 @@ impl StateTable {
         Ok(StateId { place })
     }
 
-    /// The state after writes, one after the other. The states on the way are kept, which share parts with it.
-    /// `NoMemory` is its only fault, and the table is then as it was.
+    /// The state after writes, one after the other. Beside it only its parts get ids: on the state without writes no
+    /// more than there are writes. `NoMemory` is its only fault, and the table is then as it was.
     pub fn with_all(&mut self, state: StateId, writes: &[TagEntry]) -> Result<StateId, Fault>
         requires state { IsState self.old state }
         requires tags { All (λ w. IsTag self.old w.tag) writes.now }
         ensures given { IfOk result (IsState self.new) }
         ensures state { IfOk result (λ id. state_at self.new id ≡ state_after (state_at self.old state) (writes_at self.old writes.now)) }
+        ensures few { state ≡ 0 → length self.new.states ≤ length self.old.states + length writes.now }
         ensures names { self.new.names ≡ self.old.names }
         ensures err { OnErr result (self.new ≡ self.old) }
         ensures fault { IsOkUnless result Fault.NoMemory }
         ensures ids { KeepsIds self.old self.new }
     {
         let kept = self.nodes.len();
-        match write_all(&mut self.nodes, state.place, writes) {
+        match write_all(self.alloc, &mut self.nodes, state.place, writes) {
             Ok(place) => Ok(StateId { place }),
             Err(fault) => {
                 self.nodes.truncate(kept);
@@ -249,6 +250,7 @@ impl StateTable {
     pub fn state_of_list(&mut self, writer: Stamp, names: &[String]) -> Result<StateId, Fault>
         ensures given { IfOk result (IsState self.new) }
         ensures state { IfOk result (λ id. state_at self.new id ≡ state_after [] (listed_by writer (as_words names.now))) }
+        ensures few { length self.new.states ≤ length self.old.states + length names.now }
         ensures names { OnOk result (self.new.names ≡ (all_numbered (as_words names.now) self.old).names) }
         ensures partly { OnErr result ((k : ℕ) × (self.new.names ≡ (all_numbered (take k (as_words names.now)) self.old).names)) }
         ensures err { OnErr result (self.new.states ≡ self.old.states) }
@@ -337,8 +339,8 @@ impl StateTable {
         ensures others { (tag : ℕ) → length self.now.names ≤ tag → count_of tag counts.new ≡ count_of tag counts.old }
         ensures capacity { counts.new.capacity ≡ counts.old.capacity }
     {
-        let other = there.place;
-        add_beyond(counts, &self.nodes, here.place, other, other, 1, 0);
+        counts.counts();
+        add_beyond(&mut counts.counts, &self.nodes, here.place, there.place);
     }
 
     /// Each name has one number and each state one id; a name without a number is on in no state; a state

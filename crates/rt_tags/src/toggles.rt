@@ -69,7 +69,7 @@ pub(crate) fn spot_of(counts: &[TagCount], tag: TagId) -> CountPlace
 }
 
 // Puts a count in, where there is room.
-fn insert_count(counts: &mut Vec<TagCount>, place: usize, count: TagCount)
+pub(crate) fn insert_count(counts: &mut Vec<TagCount>, place: usize, count: TagCount)
     requires within { place ≤ vec_len counts.old }
     requires room { vec_len counts.old < vec_capacity counts.old }
     ensures items { counts.new.items ≡ insert counts.old.items place count }

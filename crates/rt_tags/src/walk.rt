@@ -1,12 +1,15 @@
 // Walks over the nodes of a state.
-ghost use Rattle.std.specs.Prelude.{◌≡◌, ℕ, ◌+◌, ◌*◌, ◌==◌, ◌<◌, ◌≤◌, ◌^◌, ◌++◌, ◌&&◌, OnOk, length, true, false};
+ghost use Rattle.std.specs.Prelude.{◌≡◌, ℕ, ◌+◌, ◌*◌, ◌==◌, ◌<◌, ◌≤◌, ◌^◌, ◌++◌, ◌&&◌, OnOk, drop, length, take, true, false, vec_capacity};
 ghost use Rattle.std.specs.List.{count_by};
-ghost use Rattle.rt_tags.specs.SharedStates.{AreShared, IsThere, at_id, chosen, entries_of, entry_if, if_so, is_off, puts_on, scaled, setting_of};
-ghost use Rattle.rt_tags.specs.Toggles.{HasRoomFor, count_of};
+ghost use Rattle.rt_tags.specs.Borders.{beyond};
+ghost use Rattle.rt_tags.specs.ManyCounts.{ArePlaced};
+ghost use Rattle.rt_tags.specs.SharedStates.{AreBelow, AreShared, IsThere, at_id, chosen, entries_of, entry_if, if_so, is_off, puts_on, scaled, setting_of};
+ghost use Rattle.rt_tags.specs.Toggles.{AreFrom, count_in};
 
+use crate::many::{put, sort};
 use crate::nodes::{Node, Setting, node_at, setting_at};
 use crate::states::{TagEntry, TagId};
-use crate::toggles::Toggles;
+use crate::toggles::TagCount;
 use indexmap::IndexSet;
 use std::alloc::AllocError;
 
@@ -41,7 +44,7 @@ pub(crate) fn is_none_on(nodes: &IndexSet<Node>, id: u32) -> bool
 }
 
 // Adds a tag's setting as an entry, if there is one.
-fn push_setting(
+pub(crate) fn push_setting(
     out: &mut Vec<TagEntry>,
     tag: TagId,
     setting: Option<Setting>,
@@ -91,72 +94,109 @@ fn is_beyond(nodes: &IndexSet<Node>, setting: Option<Setting>, other: u32, tag: 
     puts_on(setting) && !puts_on(setting_at(nodes, other, tag))
 }
 
-// Counts a tag once more, if it is so.
-fn add_if(counts: &mut Toggles, is_so: bool, tag: u32)
-    requires within { tag < counts.old.capacity }
-    requires others { (t : ℕ) → counts.old.capacity ≤ t → count_of t counts.old ≡ 0 }
-    requires few { count_of tag counts.old + count_by (λ x. x == tag) (if_so is_so tag) < 2 ^ 32 }
-    ensures counts { (t : ℕ) → count_of t counts.new ≡ count_of t counts.old + count_by (λ x. x == t) (if_so is_so tag) }
-    ensures capacity { counts.new.capacity ≡ counts.old.capacity }
-    ensures others { (t : ℕ) → counts.new.capacity ≤ t → count_of t counts.new ≡ 0 }
+// Counts a tag once more, if it is so, where it doesn't stand behind the first counts.
+fn put_if(counts: &mut Vec<TagCount>, ordered: usize, is_so: bool, tag: u32)
+    requires placed { ArePlaced ordered counts.old.items }
+    requires within { tag < vec_capacity counts.old }
+    requires others { (t : ℕ) → vec_capacity counts.old ≤ t → count_in t counts.old.items ≡ 0 }
+    requires few { count_in tag counts.old.items + count_by (λ x. x == tag) (if_so is_so tag) < 2 ^ 32 }
+    requires behind { count_in tag (drop ordered counts.old.items) + count_by (λ x. x == tag) (if_so is_so tag) ≤ 1 }
+    ensures placed { ArePlaced ordered counts.new.items }
+    ensures counts { (t : ℕ) → count_in t counts.new.items ≡ count_in t counts.old.items + count_by (λ x. x == t) (if_so is_so tag) }
+    ensures first { (t : ℕ) → count_in t (take ordered counts.old.items) ≤ count_in t (take ordered counts.new.items) }
+    ensures capacity { vec_capacity counts.new ≡ vec_capacity counts.old }
+    ensures others { (t : ℕ) → vec_capacity counts.new ≤ t → count_in t counts.new.items ≡ 0 }
 {
     if is_so {
-        counts.counts();
-        counts.add(TagId::at(tag as usize), 1);
+        put(counts, ordered, TagId::at(tag as usize), 1);
     }
 }
 
-// One toggle more of each tag that is on in a part of a state and not in another state. What both share is passed over.
-pub(crate) fn add_beyond(
-    counts: &mut Toggles,
-    nodes: &IndexSet<Node>,
+// Parts of two states at one place: a tag of theirs stands for its number times the scale and the offset.
+#[derive(Clone, Copy)]
+struct Parts {
     here: u32,
     there: u32,
-    other: u32,
     scale: u64,
     offset: u64,
+}
+
+// One toggle more of each tag that is on in a part of a state and not in another state. What both share is passed over. A tag
+// without a count at its place is put behind the first counts.
+fn put_beyond(
+    counts: &mut Vec<TagCount>,
+    ordered: usize,
+    nodes: &IndexSet<Node>,
+    parts: Parts,
+    other: u32,
 )
+    requires kept { AreShared nodes.now.keys }
+    requires here { parts.here < length nodes.now.keys }
+    requires there { parts.there < length nodes.now.keys }
+    requires other { other < length nodes.now.keys }
+    requires part { (t : ℕ) → IsThere (at_id nodes.now.keys parts.there) t
+        → setting_of (at_id nodes.now.keys other) (t * parts.scale + parts.offset) ≡ setting_of (at_id nodes.now.keys parts.there) t }
+    requires fits { (t : ℕ) → IsThere (at_id nodes.now.keys parts.here) t → t * parts.scale + parts.offset < 2 ^ 32 }
+    requires scale { 0 < parts.here → (parts.scale < 2 ^ 33) × (parts.offset < 2 ^ 33) }
+    requires placed { ArePlaced ordered counts.old.items }
+    requires within { (t : ℕ) → IsThere (at_id nodes.now.keys parts.here) t → t * parts.scale + parts.offset < vec_capacity counts.old }
+    requires others { (tag : ℕ) → vec_capacity counts.old ≤ tag → count_in tag counts.old.items ≡ 0 }
+    requires few { (tag : ℕ) → count_in tag counts.old.items + count_by (λ x. x == tag)
+        (chosen (λ t. t * parts.scale + parts.offset) (is_off (at_id nodes.now.keys other)) (at_id nodes.now.keys parts.here)) < 2 ^ 32 }
+    requires behind { (tag : ℕ) → count_in tag (drop ordered counts.old.items) + count_by (λ x. x == tag)
+        (chosen (λ t. t * parts.scale + parts.offset) (is_off (at_id nodes.now.keys other)) (at_id nodes.now.keys parts.here)) ≤ 1 }
+    ensures placed { ArePlaced ordered counts.new.items }
+    ensures counts { (tag : ℕ) → count_in tag counts.new.items ≡ count_in tag counts.old.items + count_by (λ x. x == tag)
+        (chosen (λ t. t * parts.scale + parts.offset) (is_off (at_id nodes.now.keys other)) (at_id nodes.now.keys parts.here)) }
+    ensures first { (t : ℕ) → count_in t (take ordered counts.old.items) ≤ count_in t (take ordered counts.new.items) }
+    ensures capacity { vec_capacity counts.new ≡ vec_capacity counts.old }
+    ensures others { (t : ℕ) → vec_capacity counts.new ≤ t → count_in t counts.new.items ≡ 0 }
+{
+    if parts.here == 0 || parts.here == parts.there {
+        return;
+    }
+    let node = node_at(nodes, parts.here);
+    let beside = node_at(nodes, parts.there);
+    let tag = (node.tag as u64 * parts.scale + parts.offset) as u32;
+    let is_so = is_beyond(nodes, node.setting, other, tag);
+    put_if(counts, ordered, is_so, tag);
+    let odds = Parts {
+        here: node.odd,
+        there: beside.odd,
+        scale: parts.scale * 2,
+        offset: parts.offset + parts.scale,
+    };
+    put_beyond(counts, ordered, nodes, odds, other);
+    let evens = Parts {
+        here: node.even,
+        there: beside.even,
+        scale: parts.scale * 2,
+        offset: parts.offset,
+    };
+    put_beyond(counts, ordered, nodes, evens, other);
+}
+
+/// One toggle more of each tag that is on in a state and not in another. What both share is passed over.
+pub(crate) fn add_beyond(counts: &mut Vec<TagCount>, nodes: &IndexSet<Node>, here: u32, there: u32)
     requires kept { AreShared nodes.now.keys }
     requires here { here < length nodes.now.keys }
     requires there { there < length nodes.now.keys }
-    requires other { other < length nodes.now.keys }
-    requires part { (t : ℕ) → IsThere (at_id nodes.now.keys there) t
-        → setting_of (at_id nodes.now.keys other) (t * scale + offset) ≡ setting_of (at_id nodes.now.keys there) t }
-    requires fits { (t : ℕ) → IsThere (at_id nodes.now.keys here) t → t * scale + offset < 2 ^ 32 }
-    requires scale { 0 < here → (scale < 2 ^ 33) × (offset < 2 ^ 33) }
-    requires within { (t : ℕ) → IsThere (at_id nodes.now.keys here) t → t * scale + offset < counts.old.capacity }
-    requires others { (tag : ℕ) → counts.old.capacity ≤ tag → count_of tag counts.old ≡ 0 }
-    requires few { (tag : ℕ) → count_of tag counts.old + count_by (λ x. x == tag)
-        (chosen (λ t. t * scale + offset) (is_off (at_id nodes.now.keys other)) (at_id nodes.now.keys here)) < 2 ^ 32 }
-    ensures counts { (tag : ℕ) → count_of tag counts.new ≡ count_of tag counts.old + count_by (λ x. x == tag)
-        (chosen (λ t. t * scale + offset) (is_off (at_id nodes.now.keys other)) (at_id nodes.now.keys here)) }
-    ensures capacity { counts.new.capacity ≡ counts.old.capacity }
-    ensures others { (t : ℕ) → counts.new.capacity ≤ t → count_of t counts.new ≡ 0 }
+    requires order { AreFrom 0 counts.old.items }
+    requires within { AreBelow (vec_capacity counts.old) nodes.now.keys }
+    requires others { (tag : ℕ) → vec_capacity counts.old ≤ tag → count_in tag counts.old.items ≡ 0 }
+    requires few { (tag : ℕ) → count_in tag counts.old.items + 1 < 2 ^ 32 }
+    ensures order { AreFrom 0 counts.new.items }
+    ensures counts { (tag : ℕ) → count_in tag counts.new.items ≡ count_in tag counts.old.items
+        + beyond (puts_on (setting_of (at_id nodes.now.keys here) tag)) (puts_on (setting_of (at_id nodes.now.keys there) tag)) }
+    ensures capacity { vec_capacity counts.new ≡ vec_capacity counts.old }
 {
-    if here == 0 || here == there {
-        return;
-    }
-    let node = node_at(nodes, here);
-    let beside = node_at(nodes, there);
-    let tag = (node.tag as u64 * scale + offset) as u32;
-    let is_so = is_beyond(nodes, node.setting, other, tag);
-    add_if(counts, is_so, tag);
-    add_beyond(
-        counts,
-        nodes,
-        node.odd,
-        beside.odd,
-        other,
-        scale * 2,
-        offset + scale,
-    );
-    add_beyond(
-        counts,
-        nodes,
-        node.even,
-        beside.even,
-        other,
-        scale * 2,
-        offset,
-    );
+    let ordered = counts.len();
+    let whole = Parts {
+        here,
+        there,
+        scale: 1,
+        offset: 0,
+    };
+    put_beyond(counts, ordered, nodes, whole, there);
+    sort(counts, ordered);
 }

@@ -1,15 +1,17 @@
 // One more write on a state, and several.
-ghost use Rattle.std.specs.Prelude.{◌≡◌, ℕ, List, ◌<◌, ◌^◌, All, IfOk, IsOkUnless, OnErr, Ok, length, true};
+ghost use Rattle.std.specs.Prelude.{◌≡◌, ℕ, List, ◌+◌, ◌<◌, ◌≤◌, ◌^◌, All, IfOk, IsOkUnless, OnErr, Ok, length, true};
 ghost use Rattle.rt_stamps.specs.declared.stamp.Stamp.{Stamp};
 ghost use Rattle.rt_tags.specs.Kept.{HaveNames, all_seen, state_of};
 ghost use Rattle.rt_tags.specs.SharedStates.{AreBelow, AreShared, HasMore, at_id, is_setting_kept, setting_of, settings_after};
 ghost use Rattle.rt_tags.specs.Tags.{HaveNoRepeats};
 ghost use Rattle.rt_tags.specs.Writers.{state_after};
 
+use crate::building::write_in;
 use crate::nodes::{Node, Setting, TagSetting, put, setting_at};
 use crate::states::TagEntry;
 use indexmap::IndexSet;
 use rt_stamps::{Fault, Stamp};
+use std::alloc::Global;
 
 // Binary digits of a tag's number.
 const LEVELS: u32 = 32;
@@ -18,7 +20,7 @@ const LEVELS: u32 = 32;
 const MOST_NEW: usize = 33;
 
 // Whether a setting is there whose writer isn't less.
-fn is_kept(setting: Option<Setting>, writer: Stamp) -> bool
+pub(crate) fn is_kept(setting: Option<Setting>, writer: Stamp) -> bool
     ensures { result ≡ is_setting_kept setting writer }
 {
     match setting {
@@ -57,8 +59,9 @@ pub(crate) fn write(nodes: &mut IndexSet<Node>, id: u32, entry: TagEntry) -> Res
     Ok(put(nodes, id, TagSetting { tag, setting }, LEVELS))
 }
 
-/// Keeps the state after writes, one after the other, and those on the way, and answers its id. Want of memory.
+/// Keeps the state after writes, one after the other, and answers its id. Want of memory.
 pub(crate) fn write_all(
+    alloc: Global,
     nodes: &mut IndexSet<Node>,
     id: u32,
     entries: &[TagEntry],
@@ -73,11 +76,8 @@ pub(crate) fn write_all(
     ensures states { IfOk result (λ r. (names : List (List ℕ)) → HaveNoRepeats names → AreBelow (length names) nodes.old.keys
         → HaveNames (length names) entries.now → state_of names (at_id nodes.new.keys r)
         ≡ state_after (state_of names (at_id nodes.old.keys id)) (all_seen names entries.now)) }
+    ensures few { id ≡ 0 → length nodes.new.keys ≤ length nodes.old.keys + length entries.now }
     ensures fault { IsOkUnless result Fault.NoMemory }
 {
-    let mut at = id;
-    for entry in entries {
-        at = write(nodes, at, *entry)?;
-    }
-    Ok(at)
+    write_in(alloc, nodes, id, entries)
 }

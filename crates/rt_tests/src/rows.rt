@@ -212,3 +212,32 @@ fn deletes_in_a_row_are_one_row(rt: HostRuntime) -> Result<(), Fail> {
     kept.has_rows(&rt, 2);
     Ok(())
 }
+
+// A character of site 7 under a tag, which goes on from the one before it.
+fn tagged(alloc: Global, count: u64, tag: &str) -> Result<Op, Fault> {
+    let prev = count.saturating_sub(1);
+    let after = if prev == 0 {
+        ROOT
+    } else {
+        Stamp {
+            count: prev,
+            site: 7,
+        }
+    };
+    let mut tags = Vec::new(alloc);
+    tags.push(String::from_str(alloc, tag)?)?;
+    let text = Vec::from_slice(alloc, &['x'])?;
+    Op::insert(Stamp { count, site: 7 }, prev, after, tags, text)
+}
+
+#[test]
+fn what_is_typed_under_the_same_tags_is_one_row(rt: HostRuntime) -> Result<(), Fail> {
+    let mut kept = Kept::new(rt.alloc());
+    kept.put(&rt, tagged(rt.alloc(), 1, "t")?)?;
+    kept.put(&rt, tagged(rt.alloc(), 2, "t")?)?;
+    kept.has_rows(&rt, 1);
+    kept.put(&rt, tagged(rt.alloc(), 3, "u")?)?;
+    kept.put(&rt, tagged(rt.alloc(), 4, "t")?)?;
+    kept.has_rows(&rt, 3);
+    Ok(())
+}

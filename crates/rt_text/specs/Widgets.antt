@@ -150,7 +150,7 @@ view_as number view = record view { own = get_or (widgets_of view) number view.o
 
 -- the limits of each widget, those of the one that commands first
 abbrev pub limits_of : ViewValue → List Limits
-limits_of view = map (λ own. own.limits) (view.own ∷ view.others)
+limits_of view = map (λ own. own.limits) (widgets_of view)
 
 -- each of them by one rule
 abbrev pub each_widget : (WidgetValue → WidgetValue) → ViewValue → ViewValue

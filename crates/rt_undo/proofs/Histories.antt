@@ -18,7 +18,7 @@ use Rattle.rt_undo.specs.declared.renames.Move.{Move}
 use Rattle.rt_undo.specs.Actions.{Action, Removed, group_of, is_replace, restamped, restamped_one}
 use Rattle.rt_undo.specs.Groups.{IsStill, NoneMoves, groups_of, numbers_of, numbers_of_groups}
 use Rattle.rt_undo.specs.Renames.{SpanMapValue, is_moved, now_of, renamed, value_of}
-use Rattle.rt_undo.specs.Undo.{UndoHistory, as_group, asks_separator, but_last, renamed_span, differs_from, last, next_redo, next_undo, numbers, numbers_in, recorded, renamed_by, rest_after, separated, to_undo, undo_done, with_stamps_in, same_numbers}
+use Rattle.rt_undo.specs.Undo.{UndoHistory, as_group, asks_separator, but_newest, renamed_span, differs_from, newest, next_redo, next_undo, numbers, numbers_in, recorded, renamed_by, rest_after, separated, to_undo, undo_done, with_stamps_in, same_numbers}
 use Rattle.rt_undo.proofs.Following.{by_test, none_of, now_ends}
 
 -- TWICE
@@ -88,11 +88,11 @@ to_undo_renamed f h =
     ap (λ l. map (with_stamps_in {T = ℕ} f) h.closed ++ l) (as_group_renamed f h.current)
     ∙ sym (map-append (with_stamps_in {T = ℕ} f) h.closed (as_group h.current))
 
-pub but_last_map : {X Y : Type 0} (g : X → Y) (xs : List X) → but_last (map g xs) ≡ map g (but_last xs)
-but_last_map g xs = ap (λ n. take (n - 1) (map g xs)) (length-map xs g) ∙ take-map g (length xs - 1) xs
+pub but_newest_map : {X Y : Type 0} (g : X → Y) (xs : List X) → but_newest (map g xs) ≡ map g (but_newest xs)
+but_newest_map g xs = ap (λ n. take (n - 1) (map g xs)) (length-map xs g) ∙ take-map g (length xs - 1) xs
 
-pub last_map : {X Y : Type 0} (g : X → Y) (xs : List X) → last (map g xs) ≡ option_map g (last xs)
-last_map g xs = ap (λ n. slice_get (map g xs) (n - 1)) (length-map xs g) ∙ slice_get-map g xs (length xs - 1)
+pub newest_map : {X Y : Type 0} (g : X → Y) (xs : List X) → newest (map g xs) ≡ option_map g (newest xs)
+newest_map g xs = ap (λ n. slice_get (map g xs) (n - 1)) (length-map xs g) ∙ slice_get-map g xs (length xs - 1)
 
 one_more : (f : Stamp → Stamp) (groups : List (List (Action ℕ))) (group : List (Action ℕ)) → with_stamps_in f group ≡ group
     → map (with_stamps_in {T = ℕ} f) (groups ++ group ∷ []) ≡ map (with_stamps_in {T = ℕ} f) groups ++ group ∷ []
@@ -102,21 +102,21 @@ one_more f groups group still =
 pub undo_renamed : (f : Stamp → Stamp) (reverted : List (Action ℕ)) (h : UndoHistory ℕ) → with_stamps_in f reverted ≡ reverted
     → renamed_by f (undo_done reverted h) ≡ undo_done reverted (renamed_by f h)
 undo_renamed f reverted h still = λ i. record h {
-  closed = (sym (but_last_map (with_stamps_in {T = ℕ} f) (to_undo h)) ∙ ap (λ l. but_last l) (sym (to_undo_renamed f h))) i;
+  closed = (sym (but_newest_map (with_stamps_in {T = ℕ} f) (to_undo h)) ∙ ap (λ l. but_newest l) (sym (to_undo_renamed f h))) i;
   current = [];
   undone = one_more f h.undone reverted still i;
 }
 
 -- a reverted group is on the undo stack
 abbrev pub put_back : List (Action ℕ) → UndoHistory ℕ → UndoHistory ℕ
-put_back reverted h = record h { closed = to_undo h ++ reverted ∷ []; current = []; undone = but_last h.undone }
+put_back reverted h = record h { closed = to_undo h ++ reverted ∷ []; current = []; undone = but_newest h.undone }
 
 pub put_back_renamed : (f : Stamp → Stamp) (reverted : List (Action ℕ)) (h : UndoHistory ℕ) → with_stamps_in f reverted ≡ reverted
     → renamed_by f (put_back reverted h) ≡ put_back reverted (renamed_by f h)
 put_back_renamed f reverted h still = λ i. record h {
   closed = (one_more f (to_undo h) reverted still ∙ ap (λ l. l ++ reverted ∷ []) (sym (to_undo_renamed f h))) i;
   current = [];
-  undone = sym (but_last_map (with_stamps_in {T = ℕ} f) h.undone) i;
+  undone = sym (but_newest_map (with_stamps_in {T = ℕ} f) h.undone) i;
 }
 
 pub separated_renamed : (f : Stamp → Stamp) (h : UndoHistory ℕ) → renamed_by f (separated h) ≡ separated (renamed_by f h)
@@ -139,8 +139,8 @@ differs_renamed f kind (Some a) = refl
 
 asks_renamed : (f : Stamp → Stamp) (kind : Kind) (h : UndoHistory ℕ) → asks_separator kind (renamed_by f h) ≡ asks_separator kind h
 asks_renamed f kind h =
-    ap (λ o. is_replace kind || differs_from kind o) (last_map (restamped {T = ℕ} f) h.current)
-    ∙ ap (λ b. is_replace kind || b) (differs_renamed f kind (last h.current))
+    ap (λ o. is_replace kind || differs_from kind o) (newest_map (restamped {T = ℕ} f) h.current)
+    ∙ ap (λ b. is_replace kind || b) (differs_renamed f kind (newest h.current))
 
 begun_renamed : (f : Stamp → Stamp) (b : Bool) (h : UndoHistory ℕ) → renamed_by f (if b then separated h else h) ≡ (if b then separated (renamed_by f h) else renamed_by f h)
 begun_renamed f true h = separated_renamed f h
@@ -251,12 +251,12 @@ groups_more groups group = map-append (λ g. group_of g.items) groups (group ∷
 
 -- UNDO AND REDO
 
-pub undo_is : (f : Stamp → Stamp) (h : UndoHistory ℕ) (group : List (Action ℕ)) → last (to_undo h) ≡ Some group → next_undo (renamed_by f h) ≡ Some (with_stamps_in f group)
-undo_is f h group e = ap (λ l. last l) (to_undo_renamed f h) ∙ last_map (with_stamps_in {T = ℕ} f) (to_undo h) ∙ ap (option_map (with_stamps_in {T = ℕ} f)) e
+pub undo_is : (f : Stamp → Stamp) (h : UndoHistory ℕ) (group : List (Action ℕ)) → newest (to_undo h) ≡ Some group → next_undo (renamed_by f h) ≡ Some (with_stamps_in f group)
+undo_is f h group e = ap (λ l. newest l) (to_undo_renamed f h) ∙ newest_map (with_stamps_in {T = ℕ} f) (to_undo h) ∙ ap (option_map (with_stamps_in {T = ℕ} f)) e
 
-pub redo_is : (f : Stamp → Stamp) (h : UndoHistory ℕ) (group : List (Action ℕ)) → last (h.undone ++ []) ≡ Some group → next_redo (renamed_by f h) ≡ Some (with_stamps_in f group)
+pub redo_is : (f : Stamp → Stamp) (h : UndoHistory ℕ) (group : List (Action ℕ)) → newest (h.undone ++ []) ≡ Some group → next_redo (renamed_by f h) ≡ Some (with_stamps_in f group)
 redo_is f h group e =
-    last_map (with_stamps_in {T = ℕ} f) h.undone ∙ ap (option_map (with_stamps_in {T = ℕ} f)) (ap (λ l. last l) (sym (append-nil h.undone)) ∙ e)
+    newest_map (with_stamps_in {T = ℕ} f) h.undone ∙ ap (option_map (with_stamps_in {T = ℕ} f)) (ap (λ l. newest l) (sym (append-nil h.undone)) ∙ e)
 
 -- what is said of a value of a result, and what follows from it
 pub if_ok : {A E : Type 0} {P Q : A → Type 0} (r : Result A E) → ((x : A) → P x → Q x) → IfOk r P → IfOk r Q
@@ -268,9 +268,9 @@ only_memory (Ok x) other differs e is = cc
 only_memory (Err fault) other differs e is = let same : fault ≡ other = cc in differs (sym e ∙ same)
 
 pub last_closed : (closed : List (Vec KeptAction Global)) (current : List KeptAction) (group : Vec KeptAction Global) → nat_eq (length current) 0 ≡ true
-    → Some group ≡ slice_get closed (length closed - 1) → Some (group_of group.items) ≡ last (groups_of closed ++ as_group (group_of current))
+    → Some group ≡ slice_get closed (length closed - 1) → Some (group_of group.items) ≡ newest (groups_of closed ++ as_group (group_of current))
 last_closed closed [] group none e =
-    sym (ap (λ l. last l) (append-nil (groups_of closed)) ∙ last_map (λ g. group_of g.items) closed ∙ ap (option_map (λ g. group_of g.items)) (sym e))
+    sym (ap (λ l. newest l) (append-nil (groups_of closed)) ∙ newest_map (λ g. group_of g.items) closed ∙ ap (option_map (λ g. group_of g.items)) (sym e))
 last_closed closed (a ∷ current) group none e = absurd (false_true (never_zero (length current) ∙ none))
 
 pub none_or_some : {A : Type 0} {x : A} → None ≡ Some x → ⊥

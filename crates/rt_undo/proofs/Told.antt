@@ -9,7 +9,7 @@ use Rattle.std.proofs.lemmas.Grind.{flat_map-append}
 use Rattle.rt_undo.specs.declared.action.Action.{Action as KeptAction}
 use Rattle.rt_undo.specs.Flag.{IsLost, IsTold, ModifiedFlag}
 use Rattle.rt_undo.specs.Groups.{numbers_of, numbers_of_groups}
-use Rattle.rt_undo.specs.Undo.{but_last, rest_after, same_numbers}
+use Rattle.rt_undo.specs.Undo.{but_newest, rest_after, same_numbers}
 use Rattle.rt_undo.proofs.Dropping.{kept_after, nothing_after}
 use Rattle.rt_undo.proofs.Following.{by_test}
 use Rattle.rt_undo.proofs.Histories.{is_all, is_empty, rest_none, rest_then, same_rest, some_of}
@@ -236,7 +236,7 @@ group_beside f closed v told none =
       no_action = λ e l. absurd (omega (arith, l));
     }
 
-pub last_beside : (f : ModifiedFlag) (closed : List (Vec KeptAction Global)) → IsTold f closed [] → f.groups < length closed → IsTold f (but_last closed) []
+pub last_beside : (f : ModifiedFlag) (closed : List (Vec KeptAction Global)) → IsTold f closed [] → f.groups < length closed → IsTold f (but_newest closed) []
 last_beside f closed told l =
     let long = length-take-le (length closed - 1) closed (omega arith) in
     record {
@@ -250,33 +250,33 @@ last_beside f closed told l =
     }
 
 pub last_agrees : (f : ModifiedFlag) (closed : List (Vec KeptAction Global)) (rest : List ℕ) → IsTold f closed [] → f.groups ≡ length closed
-    → rest_after (numbers_of_groups (but_last closed)) f.kept ≡ Some rest → IsTold (record f { groups = f.groups - 1; rest = rest }) (but_last closed) []
+    → rest_after (numbers_of_groups (but_newest closed)) f.kept ≡ Some rest → IsTold (record f { groups = f.groups - 1; rest = rest }) (but_newest closed) []
 last_agrees f closed rest told g e =
     let long = length-take-le (length closed - 1) closed (omega arith) in
     let none : f.actions ≡ 0 = omega (arith, told.actions) in
     record {
       groups = omega (arith, long, g);
       actions = told.actions;
-      rest = (λ i. rest_after (numbers_of_groups (take_all (f.groups - 1) (but_last closed) (omega (arith, long, g)) i) ++ numbers_of (take (none i) [])) f.kept)
-          ∙ ap (λ l. rest_after l f.kept) (append-nil (numbers_of_groups (but_last closed))) ∙ e;
+      rest = (λ i. rest_after (numbers_of_groups (take_all (f.groups - 1) (but_newest closed) (omega (arith, long, g)) i) ++ numbers_of (take (none i) [])) f.kept)
+          ∙ ap (λ l. rest_after l f.kept) (append-nil (numbers_of_groups (but_newest closed))) ∙ e;
       behind = λ l. none;
       no_group = λ l. absurd (omega (arith, long, g, l));
       no_action = λ e l. absurd (omega (arith, l));
     }
 
 -- there is no group
-pub last_of_none : (f : ModifiedFlag) (closed : List (Vec KeptAction Global)) → length closed ≡ 0 → IsTold f closed [] → IsTold f (but_last closed) []
+pub last_of_none : (f : ModifiedFlag) (closed : List (Vec KeptAction Global)) → length closed ≡ 0 → IsTold f closed [] → IsTold f (but_newest closed) []
 last_of_none f closed e told =
     subst (λ xs. IsTold f xs []) (sym (take_all (length closed - 1) closed (omega (arith, e)))) told
 
 -- the numbers of all groups, and of the last one
 pub with_last : (closed : List (Vec KeptAction Global)) (v : Vec KeptAction Global) → 0 < length closed → get_or closed (length closed - 1) v ≡ v
-    → numbers_of_groups closed ≡ numbers_of_groups (but_last closed) ++ numbers_of v.items
+    → numbers_of_groups closed ≡ numbers_of_groups (but_newest closed) ++ numbers_of v.items
 with_last closed v l is =
     let n = length closed - 1 in
-    let all : closed ≡ but_last closed ++ v ∷ [] =
-    sym (take_all (suc n) closed (omega (arith, l))) ∙ take-suc closed n v (omega (arith, l)) ∙ ap (λ x. but_last closed ++ x ∷ []) is in
-    ap (λ xs. numbers_of_groups xs) all ∙ group_more (but_last closed) v
+    let all : closed ≡ but_newest closed ++ v ∷ [] =
+    sym (take_all (suc n) closed (omega (arith, l))) ∙ take-suc closed n v (omega (arith, l)) ∙ ap (λ x. but_newest closed ++ x ∷ []) is in
+    ap (λ xs. numbers_of_groups xs) all ∙ group_more (but_newest closed) v
 
 -- THE OLDEST GROUP IS DROPPED
 

@@ -29,11 +29,12 @@ abbrev pub as_group : {X : Type 0} → List X → List (List X)
 as_group [] = []
 as_group (x ∷ xs) = (x ∷ xs) ∷ []
 
-abbrev pub last : {X : Type 0} → List X → Option X
-last xs = slice_get xs (length xs - 1)
+-- of a list that has its oldest first the newest, and the others
+abbrev pub newest : {X : Type 0} → List X → Option X
+newest xs = slice_get xs (length xs - 1)
 
-abbrev pub but_last : {X : Type 0} → List X → List X
-but_last xs = take (length xs - 1) xs
+abbrev pub but_newest : {X : Type 0} → List X → List X
+but_newest xs = take (length xs - 1) xs
 
 -- the undo stack
 abbrev pub to_undo : {T : Type 0} → UndoHistory T → List (List (Action T))
@@ -85,7 +86,7 @@ differs_from kind (Some action) = not (same_kind kind action.kind)
 -- With automatic separators one stands before each replacement, and where the kind differs from that of the last action since
 -- the last separator.
 abbrev pub asks_separator : {T : Type 0} → Kind → UndoHistory T → Bool
-asks_separator kind h = is_replace kind || differs_from kind (last h.current)
+asks_separator kind h = is_replace kind || differs_from kind (newest h.current)
 
 -- an action is recorded; what was undone can't be redone any more
 abbrev pub recorded : {T : Type 0} → Action T → UndoHistory T → UndoHistory T
@@ -99,19 +100,19 @@ with_action auto action h = limited (recorded action (if auto && asks_separator 
 
 -- the group that is undone next, and the one that is redone next
 abbrev pub next_undo : {T : Type 0} → UndoHistory T → Option (List (Action T))
-next_undo h = last (to_undo h)
+next_undo h = newest (to_undo h)
 
 abbrev pub next_redo : {T : Type 0} → UndoHistory T → Option (List (Action T))
-next_redo h = last h.undone
+next_redo h = newest h.undone
 
 -- The last group was reverted: it leaves the undo stack, and its reverted actions can be redone. The next action begins a group.
 abbrev pub undo_done : {T : Type 0} → List (Action T) → UndoHistory T → UndoHistory T
-undo_done reverted h = record h { closed = but_last (to_undo h); current = []; undone = h.undone ++ reverted ∷ [] }
+undo_done reverted h = record h { closed = but_newest (to_undo h); current = []; undone = h.undone ++ reverted ∷ [] }
 
 -- The group that was undone last was reverted: it leaves the redo stack, and its reverted actions can be undone. They are a
 -- closed group, and the next action begins another. There may be too many groups then, where fewer may be than when it was undone.
 abbrev pub redo_done : {T : Type 0} → List (Action T) → UndoHistory T → UndoHistory T
-redo_done reverted h = limited (record h { closed = to_undo h ++ reverted ∷ []; current = []; undone = but_last h.undone })
+redo_done reverted h = limited (record h { closed = to_undo h ++ reverted ∷ []; current = []; undone = but_newest h.undone })
 
 -- THE MODIFIED FLAG
 

@@ -2,7 +2,7 @@
 ghost use Rattle.std.specs.Prelude.{◌≡◌, ℕ, ◌≤◌, ◌||◌, ◌++◌, [], ◌∷◌, false, true, not, length, drop, option_map, unwrap_or, is_some, IfSome, IsOkUnless, IfOk, OnErr, OnOk};
 ghost use Rattle.rt_undo.specs.Flag.{IsTold};
 ghost use Rattle.rt_undo.specs.Groups.{numbers_of, numbers_of_groups};
-ghost use Rattle.rt_undo.specs.Undo.{but_last, rest_after, same_numbers};
+ghost use Rattle.rt_undo.specs.Undo.{but_newest, rest_after, same_numbers};
 
 use crate::action::Action;
 use rt_stamps::Fault;
@@ -228,7 +228,7 @@ impl Flag {
     pub(crate) fn tell_last(&mut self, closed: &VecDeque<Vec<Action>>)
         requires { IsTold self.old closed.now.items [] }
         ensures kept { (self.new.kept ≡ self.old.kept) × (self.new.forced ≡ self.old.forced) }
-        ensures told { IsTold self.new (but_last closed.now.items) [] }
+        ensures told { IsTold self.new (but_newest closed.now.items) [] }
     {
         if self.groups < closed.len() {
             return;

@@ -4,7 +4,7 @@ ghost use Rattle.std.specs.VecDeque.{deque_len, deque_capacity};
 ghost use Rattle.rt_undo.specs.Actions.{group_of, is_replace};
 ghost use Rattle.rt_undo.specs.Flag.{IsTold};
 ghost use Rattle.rt_undo.specs.Groups.{groups_of, numbers_of_groups};
-ghost use Rattle.rt_undo.specs.Undo.{as_group, but_last, differs_from, last, rest_after};
+ghost use Rattle.rt_undo.specs.Undo.{as_group, but_newest, differs_from, newest, rest_after};
 
 use crate::action::{Action, Kind};
 use crate::flag::Flag;
@@ -58,8 +58,8 @@ pub(crate) fn close(
 
 /// The last of groups is taken away, if there are any.
 pub(crate) fn drop_group(groups: &mut VecDeque<Vec<Action>>)
-    ensures items { groups.new.items ≡ but_last groups.old.items }
-    ensures groups { groups_of groups.new.items ≡ but_last (groups_of groups.old.items) }
+    ensures items { groups.new.items ≡ but_newest groups.old.items }
+    ensures groups { groups_of groups.new.items ≡ but_newest (groups_of groups.old.items) }
     ensures capacity { deque_capacity groups.new ≡ deque_capacity groups.old }
 {
     groups.pop_back();
@@ -72,7 +72,7 @@ pub(crate) fn drop_last(
     flag: &mut Flag,
 )
     requires { IsTold flag.old closed.old.items current.old.items }
-    ensures groups { groups_of closed.new.items ≡ but_last (groups_of closed.old.items ++ as_group (group_of current.old.items)) }
+    ensures groups { groups_of closed.new.items ≡ but_newest (groups_of closed.old.items ++ as_group (group_of current.old.items)) }
     ensures empty { current.new.items ≡ [] }
     ensures told { IsTold flag.new closed.new.items [] }
     ensures kept { (flag.new.kept ≡ flag.old.kept) × (flag.new.forced ≡ flag.old.forced) }
@@ -127,7 +127,7 @@ pub(crate) fn drop_oldest(
 
 /// Whether automatic separators place one before an action of a kind.
 pub(crate) fn asks_separator(current: &[Action], kind: Kind) -> bool
-    ensures { result ≡ (is_replace kind || differs_from kind (last (group_of current.now))) }
+    ensures { result ≡ (is_replace kind || differs_from kind (newest (group_of current.now))) }
 {
     match current.last() {
         Some(action) => kind == Kind::Replace || kind != action.kind,
@@ -140,7 +140,7 @@ pub(crate) fn last_group<'a>(
     closed: &'a VecDeque<Vec<Action>>,
     current: &'a [Action],
 ) -> Option<&'a [Action]>
-    ensures { option_map (λ group. group_of group) (option_copied result) ≡ last (groups_of closed.now.items ++ as_group (group_of current.now)) }
+    ensures { option_map (λ group. group_of group) (option_copied result) ≡ newest (groups_of closed.now.items ++ as_group (group_of current.now)) }
 {
     if !current.is_empty() {
         return Some(current);

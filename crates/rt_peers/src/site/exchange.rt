@@ -22,9 +22,9 @@ ghost use Rattle.rt_peers.specs.Telling.{AreToldBetween};
 use super::SiteState;
 use crate::sending::{ends_of, lacking};
 use crate::told::ReceivedChanges;
+use rt_files::export;
 use rt_holding::{Received, receive};
 use rt_oplog::OpLog;
-use rt_recording::export;
 use rt_stamps::Fault;
 use std::collections::BTreeMap;
 

@@ -1,8 +1,8 @@
-use Rattle.std.proofs.Common.{◌≡◌, ◌<◌, ◌∙◌, sym, ap, subst, length, arith}
+use Rattle.std.proofs.Common.{◌≡◌, ◌<◌, ◌∙◌, sym, ap, length, arith}
 use Rattle.std.specs.Prelude.{slice_get}
-use Rattle.std.proofs.lemmas.Option.{slice_get_past}
-use Rattle.rt_oplog.specs.Logs.{IsFalling}
-use Rattle.rt_oplog.specs.Kept.{newest_first, leading, is_earlier}
+use Rattle.std.proofs.lemmas.Option.{get_or_from_slice_get, slice_get_past}
+use Rattle.rt_oplog.specs.Kept.{leading, is_earlier}
+use Rattle.rt_oplog.specs.Runs.{places_in}
 use Rattle.rt_oplog.specs.Blocks.{places_in_blocks}
 use Rattle.rt_oplog.proofs.InBlocks.{all_earlier, falling_block, leading_at, leading_within, not_all_earlier, place_at}
 use Rattle.rt_oplog.proofs.blocks.find.Goals as goal
@@ -16,19 +16,17 @@ returns-then-are_earlier c =
 pub bounds-blocks-before : goal.bounds-blocks-before
 bounds-blocks-before c = not_all_earlier c.args.ops.now.rows c.args.stamp c.args.blocks.now c.blocks_before-before.result (sym c.are_earlier.ensures ∙ c.if-are_earlier.false) c.blocks_before-before.ensures.blocks
 
-pub ops_before-at-requires : goal.ops_before-at-requires
-ops_before-at-requires c =
-    subst (λ xs. IsFalling (newest_first c.args.ops.now.rows xs)) (sym c.deref.ensures.value)
-    (falling_block c.args.ops.now.rows c.args.blocks.now c.blocks_before-before.result c.index-blocks-before.result (not_all_earlier c.args.ops.now.rows c.args.stamp c.args.blocks.now c.blocks_before-before.result (sym c.are_earlier.ensures ∙ c.if-are_earlier.false) c.blocks_before-before.ensures.blocks) c.index-blocks-before.is c.requires)
+pub ops_before-requires : goal.ops_before-requires
+ops_before-requires c =
+    falling_block c.args.ops.now.rows c.args.blocks.now c.blocks_before-before.result c.index-blocks-before.result (not_all_earlier c.args.ops.now.rows c.args.stamp c.args.blocks.now c.blocks_before-before.result (sym c.are_earlier.ensures ∙ c.if-are_earlier.false) c.blocks_before-before.ensures.blocks) c.index-blocks-before.is c.requires
 
-pub index-requires : goal.index-requires
-index-requires c =
+pub get-requires : goal.get-requires
+get-requires c =
     let bs = c.args.blocks.now in
     let i = c.blocks_before-before.result in
     let p = is_earlier c.args.ops.now.rows c.args.stamp in
     let l : i < length bs = not_all_earlier c.args.ops.now.rows c.args.stamp bs i (sym c.are_earlier.ensures ∙ c.if-are_earlier.false) c.blocks_before-before.ensures.blocks in
-    let at : c.ops_before-at.result ≡ leading p c.index-blocks-before.result.places.items = rw c.deref.ensures.value at c.ops_before-at.ensures.place in
-    omega (arith, at, leading_within p bs i c.index-blocks-before.result c.blocks_before-before.ensures.blocks l c.index-blocks-before.is)
+    omega (arith, c.ops_before.ensures.place, leading_within p bs i c.index-blocks-before.result c.blocks_before-before.ensures.blocks l c.index-blocks-before.is)
 
 pub returns : goal.returns
 returns c =
@@ -37,7 +35,8 @@ returns c =
     let b = c.index-blocks-before.result in
     let p = is_earlier c.args.ops.now.rows c.args.stamp in
     let l : i < length bs = not_all_earlier c.args.ops.now.rows c.args.stamp bs i (sym c.are_earlier.ensures ∙ c.if-are_earlier.false) c.blocks_before-before.ensures.blocks in
-    let at : c.ops_before-at.result ≡ leading p b.places.items = rw c.deref.ensures.value at c.ops_before-at.ensures.place in
-    let within = leading_within p bs i b c.blocks_before-before.ensures.blocks l c.index-blocks-before.is in
+    let at : c.ops_before.result ≡ leading p (places_in b.runs.items) = c.ops_before.ensures.place in
+    let within : c.ops_before.result < length (places_in b.runs.items) = omega (arith, at, leading_within p bs i b c.blocks_before-before.ensures.blocks l c.index-blocks-before.is) in
+    let read = sym (get_or_from_slice_get (places_in b.runs.items) c.ops_before.result c.get.result c.get.result c.get.ensures) in
     sym (ap (slice_get (places_in_blocks bs)) (leading_at p bs i b c.blocks_before-before.ensures.blocks l c.index-blocks-before.is ∙ omega (arith, at))
-    ∙ place_at bs i c.ops_before-at.result c.index.result.now b l c.index-blocks-before.is (omega (arith, at, within)) c.index.ensures)
+    ∙ place_at bs i c.ops_before.result c.get.result b l c.index-blocks-before.is within read)

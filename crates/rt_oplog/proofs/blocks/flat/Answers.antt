@@ -10,9 +10,9 @@ returns-in_err-places c =
     let (y, is, gives) = err_from_is_err_and c.from_residual.result c.from_residual.ensures.1 in
     rw is tt
 
-pub returns-in_err-extend_from_slice : goal.returns-in_err-extend_from_slice
-returns-in_err-extend_from_slice c =
-    let (y, is, gives) = err_from_is_err_and c.from_residual-in_err-extend_from_slice.result c.from_residual-in_err-extend_from_slice.ensures.1 in
+pub returns-in_err-push_runs : goal.returns-in_err-push_runs
+returns-in_err-push_runs c =
+    let (y, is, gives) = err_from_is_err_and c.from_residual-in_err-push_runs.result c.from_residual-in_err-push_runs.ensures.1 in
     rw is tt
 
 pub loop-block-preserved : goal.loop-block-preserved

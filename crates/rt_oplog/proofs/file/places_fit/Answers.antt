@@ -1,27 +1,26 @@
 use Rattle.rt_rows.specs.Places.{HasPlace}
 use Rattle.std.proofs.Common.{◌∙◌, ap, sym}
 use Rattle.std.proofs.lemmas.List.{take_all}
-use Rattle.std.proofs.lemmas.List.Elements.{All-from_recursion}
-use Rattle.rt_ops.specs.Views.{operation_in}
-use Rattle.rt_oplog.proofs.Fitting.{fit, fits_next, fits_not}
+use Rattle.rt_oplog.specs.Runs.{places_in, places_of}
+use Rattle.rt_oplog.proofs.Fitting.{fit, part_fits, part_not}
+use Rattle.rt_oplog.proofs.InParts.{all_part}
 use Rattle.rt_oplog.proofs.file.places_fit.Goals as goal
 
-pub returns-then-not-fits : goal.returns-then-not-fits
-returns-then-not-fits c =
-    let ops = c.args.ops.now.rows in
-    let places = c.args.places.now in
-    let read = sym c.op_in.ensures.is in
-    sym (fits_not ops places c.loop-place.place-index (operation_in c.op_in.result) c.loop-place-test.true read (sym c.fits.ensures ∙ c.if-not-fits.true))
+pub run_fits-requires : goal.run_fits-requires
+run_fits-requires c =
+    all_part places_of (HasPlace c.args.ops.now.rows) c.args.runs.now c.loop-run.run-index c.run-item.result c.loop-run-test.true c.run-item.is c.requires
 
-pub loop-place-preserved : goal.loop-place-preserved
-loop-place-preserved c =
+pub returns-then-not-run_fits : goal.returns-then-not-run_fits
+returns-then-not-run_fits c =
     let ops = c.args.ops.now.rows in
-    let places = c.args.places.now in
-    let read = sym c.op_in.ensures.is in
-    fits_next ops places c.loop-place.place-index (operation_in c.op_in.result) c.loop-place-test.true read c.loop-place.invariant (sym c.fits.ensures ∙ c.if-not-fits.false)
+    sym (part_not places_of ops c.args.runs.now c.loop-run.run-index c.run-item.result c.loop-run-test.true c.run-item.is (sym c.run_fits.ensures ∙ c.if-not-run_fits.true))
+
+pub loop-run-preserved : goal.loop-run-preserved
+loop-run-preserved c =
+    let ops = c.args.ops.now.rows in
+    part_fits places_of ops c.args.runs.now c.loop-run.run-index c.run-item.result c.loop-run-test.true c.run-item.is c.loop-run.invariant (sym c.run_fits.ensures ∙ c.if-not-run_fits.false)
 
 pub returns : goal.returns
-returns c = sym (ap (fit c.args.ops.now.rows) (sym (take_all c.loop-place.place-index c.args.places.now c.loop-place-test.false)) ∙ c.loop-place.invariant)
-
-pub op_in-requires : goal.op_in-requires
-op_in-requires c = All-from_recursion (HasPlace c.args.ops.now.rows) c.args.places.now c.requires c.loop-place.place-index (record { row = 0; at = 0 }) c.loop-place-test.true
+returns c =
+    let ops = c.args.ops.now.rows in
+    sym (ap (λ runs. fit ops (places_in runs)) (sym (take_all c.loop-run.run-index c.args.runs.now c.loop-run-test.false)) ∙ c.loop-run.invariant)

@@ -6,8 +6,8 @@ use Rattle.std.proofs.lemmas.Result.{err_from_is_err_and}
 use Rattle.rt_stamps.proofs.Writes.{part_longer}
 use Rattle.rt_ops.specs.declared.version.Version.TheVariants.{One}
 use Rattle.rt_ops.specs.File.{magic, fits, HasRecord}
-use Rattle.rt_oplog.specs.Blocks.{places_in_blocks}
-use Rattle.rt_oplog.proofs.Fitting.{block_at}
+use Rattle.rt_oplog.specs.Blocks.{places_in_blocks, places_of_block}
+use Rattle.rt_oplog.proofs.Fitting.{part_at}
 use Rattle.rt_oplog.proofs.InBlocks.{all_block}
 use Rattle.rt_oplog.proofs.Merges.{ops_at}
 use Rattle.rt_oplog.proofs.Writing.{part_block}
@@ -29,7 +29,7 @@ pub write_records-requires-clause-room : goal.write_records-requires-clause-room
 write_records-requires-clause-room g c = λ one.
     let ops = c.blocks-2.result.0.now.rows in
     let room = ap (list_all (fits One)) c.blocks-2.ensures.operations ∙ c.requires one in
-    rw c.deref.ensures.value (block_at ops c.blocks-2.result.1.now c.loop-block.block-index c.block-item.result c.loop-block-test.true c.block-item.is room)
+    rw c.deref.ensures.value (part_at places_of_block ops c.blocks-2.result.1.now c.loop-block.block-index c.block-item.result c.loop-block-test.true c.block-item.is room)
 
 pub returns-in_err-write_records-clause-writes : goal.returns-in_err-write_records-clause-writes
 returns-in_err-write_records-clause-writes g c =

@@ -3,8 +3,8 @@ use Rattle.std.proofs.lemmas.Result.{err_from_is_err_and}
 use Rattle.rt_oplog.specs.Spares.{AreSpare}
 use Rattle.rt_oplog.proofs.order.push_spare.Goals as goal
 
-pub returns-in_err-places : goal.returns-in_err-places
-returns-in_err-places c =
+pub returns-in_err-runs : goal.returns-in_err-runs
+returns-in_err-runs c =
     let (y, is, gives) = err_from_is_err_and c.from_residual.result c.from_residual.ensures.1 in
     rw is (record { spares = c.requires; grows = omega arith; one = omega arith; ok = tt })
 

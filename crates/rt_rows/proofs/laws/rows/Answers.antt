@@ -9,4 +9,4 @@ pub returns-clause-exact : goal.returns-clause-exact
 returns-clause-exact c = row_exact
 
 pub returns-clause-length : goal.returns-clause-length
-returns-clause-length c = λ row. from_length row.start (puts row.start row.after) 0 row.text
+returns-clause-length c = λ row. from_length row.start (puts row.start row.after row.tags) 0 row.text

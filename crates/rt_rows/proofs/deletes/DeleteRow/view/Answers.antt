@@ -1,7 +1,6 @@
-use Rattle.std.proofs.Common.{◌≡◌, ◌∙◌, ◌∷◌, [], ap, sym, arith, get_or, Some, Option}
+use Rattle.std.proofs.Common.{◌≡◌, ◌∙◌, ◌∷◌, [], ap, sym, get_or, Some, Option}
 use Rattle.std.proofs.lemmas.Option.{get_or_from_slice_get}
 use Rattle.rt_ops.specs.Operations.{Delete, Operation}
-use Rattle.rt_ops.specs.Views.{operation_in}
 use Rattle.rt_rows.specs.Rows.{DeletesInRow, deletes, one_in, prev_in, stamp_in}
 use Rattle.rt_rows.proofs.Following.{row_get}
 use Rattle.rt_rows.proofs.deletes.DeleteRow.view.Goals as goal

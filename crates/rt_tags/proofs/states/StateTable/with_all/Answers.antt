@@ -1,11 +1,11 @@
-use Rattle.std.proofs.Common.{◌≡◌, ◌∙◌, ℕ, All, List, ap, length, subst, sym}
+use Rattle.std.proofs.Common.{◌≡◌, ◌∙◌, ℕ, All, List, ap, arith, length, subst, sym}
 use Rattle.rt_tags.specs.Kept.{HaveNames, all_seen, state_of}
 use Rattle.rt_tags.specs.Seen.{names_of}
 use Rattle.rt_tags.specs.SharedStates.{at_id}
 use Rattle.rt_tags.specs.States.{TagStates, IsTag, Write, state_at, writes_at}
 use Rattle.rt_tags.specs.Writers.{state_after}
 use Rattle.rt_tags.specs.declared.states.TagEntry.{TagEntry}
-use Rattle.rt_tags.proofs.Keeping.{given_new, keeps_there, place_given, state_there, table_after, table_of}
+use Rattle.rt_tags.proofs.Keeping.{given_new, keeps_there, place_given, state_there, states_length, table_after, table_of}
 use Rattle.rt_tags.proofs.states.StateTable.with_all.Goals as goal
 
 pub write_all-requires-clause-given : goal.write_all-requires-clause-given
@@ -35,3 +35,12 @@ returns-in-Ok-clause-state c =
     (state_there names new id
     ∙ (c.in-Ok.ensures.states names c.self.invariant.names_differ c.self.invariant.named named
     ∙ ap (λ (s : List Write). state_after s (all_seen names writes)) (ap (λ (i : ℕ). state_of names (at_id old i)) c.state.view_is ∙ sym (state_there names old c.args.state))))
+
+pub returns-in-Ok-clause-few : goal.returns-in-Ok-clause-few
+returns-in-Ok-clause-few c = λ z.
+    let names = names_of c.self.inside.names in
+    let few = c.write_all.ensures.few (c.state.view_is ∙ z) in
+    let new = states_length names c.write_all.new.nodes.keys in
+    let old = states_length names c.self.inside.nodes.keys in
+    let same = ap (λ (t : TagStates). length t.states) c.self.view_is in
+    omega (arith, few, new, old, same)

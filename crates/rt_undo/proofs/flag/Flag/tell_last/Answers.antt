@@ -3,7 +3,7 @@ use Rattle.std.specs.VecDeque.{deque_len}
 use Rattle.std.proofs.lemmas.List.{length-map}
 use Rattle.rt_undo.specs.Flag.{IsTold, flag_shown}
 use Rattle.rt_undo.specs.Groups.{numbers_of, numbers_of_groups}
-use Rattle.rt_undo.specs.Undo.{but_last, rest_after}
+use Rattle.rt_undo.specs.Undo.{but_newest, rest_after}
 use Rattle.rt_undo.proofs.Told.{by_less, groups_agree, last_agrees, last_beside, last_of_none, place_back, place_fits, with_last}
 use Rattle.rt_undo.proofs.flag.Flag.tell_last.Goals as goal
 
@@ -18,7 +18,7 @@ overflow_sub-self c =
     let is : get_or q.items (length q.items - 1) v ≡ v = ap (λ n. get_or q.items (n - 1) v) (sym len) ∙ sym c.in-Some.ensures.lookup in
     let all = ap (λ l. rest_after l (flag_shown s).kept) (sym (with_last q.items v (omega (arith, some, len)) is))
     ∙ groups_agree (flag_shown s) q.items told (omega (arith, told.groups, c.if-self-len.false, c.len.ensures, len)) in
-    let fits = place_fits s.numbers.items s.passed s.place (numbers_of_groups (but_last q.items)) (numbers_of v.items) c.self.invariant.passed c.self.invariant.place all in
+    let fits = place_fits s.numbers.items s.passed s.place (numbers_of_groups (but_newest q.items)) (numbers_of v.items) c.self.invariant.passed c.self.invariant.place all in
     omega (arith, fits, length-map v.items (λ a. a.number), c.len-in-Some.ensures)
 
 pub returns-in-Some-clause-told : goal.returns-in-Some-clause-told
@@ -34,7 +34,7 @@ returns-in-Some-clause-told c =
     let all = ap (λ l. rest_after l (flag_shown s).kept) (sym (with_last q.items v (omega (arith, some, len)) is)) ∙ groups_agree (flag_shown s) q.items told g in
     let long : length (numbers_of v.items) ≡ c.len-in-Some.result = omega (arith, length-map v.items (λ a. a.number), c.len-in-Some.ensures) in
     last_agrees (flag_shown s) q.items (drop (s.place - c.len-in-Some.result) s.numbers.items) told g
-    (place_back s.numbers.items s.passed s.place (numbers_of_groups (but_last q.items)) (numbers_of v.items) c.self.invariant.passed c.self.invariant.place all
+    (place_back s.numbers.items s.passed s.place (numbers_of_groups (but_newest q.items)) (numbers_of v.items) c.self.invariant.passed c.self.invariant.place all
     ∙ ap (λ n. Some (drop (s.place - n) s.numbers.items)) long)
 
 pub returns-then-self-len-clause-told : goal.returns-then-self-len-clause-told

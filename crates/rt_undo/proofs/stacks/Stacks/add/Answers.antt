@@ -4,7 +4,7 @@ use Rattle.rt_undo.specs.Actions.{action_of, group_of, is_replace}
 use Rattle.rt_undo.specs.Groups.{IsStill, groups_of}
 use Rattle.rt_undo.specs.Renames.{now_of}
 use Rattle.rt_undo.specs.Seen.{UndoStacks, history_kept}
-use Rattle.rt_undo.specs.Undo.{asks_separator, differs_from, last, limited, recorded, renamed_by, separated}
+use Rattle.rt_undo.specs.Undo.{asks_separator, differs_from, newest, limited, recorded, renamed_by, separated}
 use Rattle.rt_undo.proofs.Histories.{action_still, recorded_with, recorded_with_renamed}
 use Rattle.rt_undo.proofs.stacks.Stacks.add.Goals as goal
 use Rattle.rt_undo.proofs.stacks.Stacks.add.Goals.{then-auto_separators+then-asks_separator, else-auto_separators, else-auto_separators-via-then-auto_separators+else-asks_separator, else-auto_separators-via-else-auto_separators}
@@ -33,12 +33,12 @@ returns-clause-history c =
             kept = w.close.ensures.kept.0 i;
             forced = w.close.ensures.kept.1 i;
           })))
-          ∙ (λ i. renamed_by f (recorded a (if sym w.if-auto_separators.true i && sym (sym (w.asks_separator.ensures ∙ ap (λ l. is_replace a.kind || differs_from a.kind (last (group_of l))) w.deref.ensures.value) ∙ w.if-asks_separator.true) i then separated h else h)))
+          ∙ (λ i. renamed_by f (recorded a (if sym w.if-auto_separators.true i && sym (sym (w.asks_separator.ensures ∙ ap (λ l. is_replace a.kind || differs_from a.kind (newest (group_of l))) w.deref.ensures.value) ∙ w.if-asks_separator.true) i then separated h else h)))
       | else-auto_separators w ↦
           (λ i. renamed_by (now_of (w.self-inside-is i).renames) (recorded a (history_kept (w.self-inside-is i))))
           ∙ elim w.else-auto_separators.branch as (λ _. renamed_by f (recorded a h) ≡ renamed_by f (recorded_with auto a h)) [
             | else-auto_separators-via-then-auto_separators+else-asks_separator v ↦
-                (λ i. renamed_by f (recorded a (if sym v.if-auto_separators.true i && sym (sym (v.asks_separator.ensures ∙ ap (λ l. is_replace a.kind || differs_from a.kind (last (group_of l))) v.deref.ensures.value) ∙ v.if-asks_separator.false) i then separated h else h)))
+                (λ i. renamed_by f (recorded a (if sym v.if-auto_separators.true i && sym (sym (v.asks_separator.ensures ∙ ap (λ l. is_replace a.kind || differs_from a.kind (newest (group_of l))) v.deref.ensures.value) ∙ v.if-asks_separator.false) i then separated h else h)))
             | else-auto_separators-via-else-auto_separators v ↦
                 (λ i. renamed_by f (recorded a (if sym v.if-auto_separators.false i && asks_separator a.kind h then separated h else h)))
           ]

@@ -4,7 +4,7 @@ use Rattle.rt_undo.specs.Actions.{group_of}
 use Rattle.rt_undo.specs.Groups.{groups_of}
 use Rattle.rt_undo.specs.Renames.{now_of}
 use Rattle.rt_undo.specs.Seen.{history_kept}
-use Rattle.rt_undo.specs.Undo.{last, next_redo, with_stamps_in}
+use Rattle.rt_undo.specs.Undo.{newest, next_redo, with_stamps_in}
 use Rattle.rt_undo.proofs.Histories.{if_ok, none_or_some, only_memory, redo_is}
 use Rattle.rt_undo.proofs.stacks.Stacks.redo.Goals as goal
 
@@ -12,7 +12,7 @@ pub returns-in-Some-clause-ok : goal.returns-in-Some-clause-ok
 returns-in-Some-clause-ok c =
     let s = c.self.inside in
     let group = group_of c.in-Some.group.now in
-    let e : last (groups_of s.undone.items ++ []) ≡ Some (group_of c.in-Some.group.now) = sym c.in-Some.ensures in
+    let e : newest (groups_of s.undone.items ++ []) ≡ Some (group_of c.in-Some.group.now) = sym c.in-Some.ensures in
     let there : next_redo c.args.self.now.history ≡ Some (with_stamps_in (now_of s.renames) group) =
     sym (ap (λ v. next_redo v.history) c.self.view_is) ∙ redo_is (now_of s.renames) (history_kept s) group e in
     if_ok c.group_now.result (λ copy same. there ∙ ap Some (sym same)) c.group_now.ensures.ok
@@ -21,7 +21,7 @@ pub returns-in-Some-clause-none : goal.returns-in-Some-clause-none
 returns-in-Some-clause-none c =
     let s = c.self.inside in
     let group = group_of c.in-Some.group.now in
-    let e : last (groups_of s.undone.items ++ []) ≡ Some (group_of c.in-Some.group.now) = sym c.in-Some.ensures in
+    let e : newest (groups_of s.undone.items ++ []) ≡ Some (group_of c.in-Some.group.now) = sym c.in-Some.ensures in
     let there : next_redo c.args.self.now.history ≡ Some (with_stamps_in (now_of s.renames) group) =
     sym (ap (λ v. next_redo v.history) c.self.view_is) ∙ redo_is (now_of s.renames) (history_kept s) group e in
     (λ is. absurd (only_memory c.group_now.result NothingToRedo (λ d. cc) c.group_now.ensures.fault is), λ none. absurd (none_or_some (sym none ∙ there)))
